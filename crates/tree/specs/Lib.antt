@@ -1,0 +1,6 @@
+pub mod Nodes
+pub mod Receivers
+pub mod Parts
+pub mod Cover
+pub mod Promise
+pub mod Written
