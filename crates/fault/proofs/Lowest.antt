@@ -1,18 +1,18 @@
 -- Laws of the lowest fault. Assumes nothing.
 use mathlib.Core.Path.{_≡_, refl, sym, ap, _∙_, subst}
-use mathlib.Core.Bool.{Bool, true, false, cond}
-use mathlib.Core.Logic.{inl, inr, ⊎-elim}
+use mathlib.Core.Logic.{⊎-elim}
 use mathlib.Core.List.{List, [], _∷_, _++_, List·Memᴰ, List·Memᴰ·head, List·Memᴰ·tail, List·Memᴰ·cases-cons, List·Memᴰ·not-nil}
-use Prim.Native.Nat.{ℕ, _≤_}
+use Prim.Native.Nat.{ℕ}
 use native.Mathlib.Omega.{arith}
 use lib.Dec.{leb}
 use Rattle.std.proofs.shelf.Tests.{cond-both, leb-true, leb-false}
 use Rattle.std.proofs.shelf.Ways.{tells}
 use Rattle.std.specs.declared.option.Option.{Option}
 use Rattle.std.specs.declared.option.Option.the-variants.{Some, None}
+use Rattle.std.specs.declared.result.Result.the-variants.{Ok, Err}
 use Rattle.fault.specs.declared.Fault.{Fault}
 use Rattle.fault.specs.Numbers.{numberOf}
-use Rattle.fault.specs.Lowest.{lower, lowest, Least, LowestLeast}
+use Rattle.fault.specs.Lowest.{lower, lowest, unless, judged, Least, LowestLeast}
 
 -- one fault more, in front
 least-cons : (f : Fault) (fs : List Fault) (o : Option Fault) → Least fs o → Least (f ∷ fs) (lower (Some f) o)
@@ -43,3 +43,24 @@ lower-assoc (Some f) (Some g) (Some k) = grind (arith, tells)
 pub lowest-append : (fs gs : List Fault) → lowest (fs ++ gs) ≡ lower (lowest fs) (lowest gs)
 lowest-append [] gs = refl
 lowest-append (f ∷ fs) gs = ap (lower (Some f)) (lowest-append fs gs) ∙ sym (lower-assoc (Some f) (lowest fs) (lowest gs))
+
+-- some fault of several is the lowest
+some-lowest : (f : Fault) (o : Option Fault) → (g : Fault) × (lower (Some f) o ≡ Some g)
+some-lowest f None = (f, refl)
+some-lowest f (Some g) =
+    cond-both (leb (numberOf f) (numberOf g)) (Some f) (Some g) (λ (o : Option Fault). (k : Fault) × (o ≡ Some k)) (λ _. (f, refl)) (λ _. (g, refl))
+
+-- what was read without a fault
+pub judged-ok : {A : Type 0} (fs : List Fault) (v x : A) → Ok x ≡ judged fs v → (fs ≡ []) × (x ≡ v)
+judged-ok [] v x e = (refl, cc)
+judged-ok (f ∷ fs) v x e =
+    let g = some-lowest f (lowest fs) in
+    let e′ : Ok x ≡ Err (g .0) = e ∙ ap (λ (o : Option Fault). unless o v) (g .1) in
+    absurd (let z : _≡_ {A = ℕ} 0 1 = cc in omega arith)
+
+pub lowest-none : (fs : List Fault) → None ≡ lowest fs → fs ≡ []
+lowest-none [] e = refl
+lowest-none (f ∷ fs) e =
+    let g = some-lowest f (lowest fs) in
+    let e′ : None ≡ Some (g .0) = e ∙ g .1 in
+    absurd (let z : _≡_ {A = ℕ} 0 1 = cc in omega arith)

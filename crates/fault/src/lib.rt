@@ -83,6 +83,15 @@ pub impl fmt::Display for Fault as FaultDisplay {
     }
 }
 
+/// Why a thing is not written into lent memory.
+#[derive(Clone, Copy)]
+pub enum Refusal {
+    /// What was asked for has faults, of which this is the lowest.
+    Faulty(Fault),
+    /// The lent memory is too short.
+    NoRoom,
+}
+
 /// The fault with the lower number, of two that may be missing.
 pub fn lower_of(a: Option<Fault>, b: Option<Fault>) -> Option<Fault>
     ensures lower { λ r. ⌜ r ≡ lower a b ⌝ }

@@ -17,7 +17,8 @@ use Rattle.tree.specs.Nodes.{firstBelow}
 use Rattle.tree.specs.Receivers.{Cut, allBelow, risingFrom}
 use Rattle.tree.specs.Parts.{part}
 use Rattle.tree.specs.Cover.{Work, clean, named, close, join, work}
-use Rattle.tree.specs.Written.{over, closed, branchOf, countOf}
+use Rattle.fault.specs.Memory.{over}
+use Rattle.tree.specs.Written.{closed, branchOf, countOf}
 use Rattle.tree.proofs.Few.{Paid, close-few, work-paid}
 use Rattle.tree.proofs.Slices.{rising-take, rising-drop, below-take, below-drop, below-weaker}
 use Rattle.tree.proofs.Sides.{halves, work-cut, Beneath, Open, some-open, none-clean}

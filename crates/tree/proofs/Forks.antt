@@ -10,7 +10,8 @@ use Rattle.tree.specs.declared.parts.Part.{Part}
 use Rattle.tree.specs.Nodes.{firstBelow}
 use Rattle.tree.specs.Receivers.{Cut}
 use Rattle.tree.specs.Cover.{Work, close, work}
-use Rattle.tree.specs.Written.{over, closed}
+use Rattle.fault.specs.Memory.{over}
+use Rattle.tree.specs.Written.{closed}
 use Rattle.tree.proofs.Few.{close-few}
 use Rattle.tree.proofs.Memory.{over-on, room-on, length-over}
 use Rattle.tree.proofs.Sides.{Beneath}

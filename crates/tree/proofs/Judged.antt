@@ -63,7 +63,10 @@ no-faults true true false e = absurd (let z : _≡_ {A = ℕ} 0 1 = cc in omega 
 no-faults true false c e = absurd (faulty (not c) e)
 no-faults false b c e = absurd (faulty (not c) e)
 
+pub sound-height : (h : ℕ) (xs : List ℕ) → None ≡ lowest (listFaults h xs) → isHeight h ≡ true
+sound-height h xs e = no-faults (isHeight h) (allBelow (2 ^ h) xs) (rising xs) e .0
+
 pub sound : (h : ℕ) (xs : List ℕ) → None ≡ lowest (listFaults h xs) → (h ≤ maxHeight) × T (allBelow (2 ^ h) xs) × T (rising xs)
 sound h xs e =
     let s = no-faults (isHeight h) (allBelow (2 ^ h) xs) (rising xs) e in
-    (leb-true h maxHeight (and-parts (ltb 0 h) (leb h maxHeight) (s .0) .1), true-T (allBelow (2 ^ h) xs) (s .1), true-T (rising xs) (s .2))
+    (leb-true h maxHeight (and-parts (ltb 0 h) (leb h maxHeight) (sound-height h xs e) .1), true-T (allBelow (2 ^ h) xs) (s .1), true-T (rising xs) (s .2))

@@ -4,11 +4,11 @@ pub mod Exact
 pub mod Few
 pub mod Neat
 pub mod Covers
-mod Judged
+pub mod Judged
 mod Stand
 pub mod Slices
 mod Sides
-mod Memory
+pub mod Memory
 mod Branches
 mod Forks
 mod Whole

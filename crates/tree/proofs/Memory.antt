@@ -1,12 +1,12 @@
 -- Lists written into lent memory, one behind the other. Assumes nothing.
-use mathlib.Core.Path.{_≡_, sym, ap, _∙_}
+use mathlib.Core.Path.{_≡_, sym, ap, ap₂, _∙_}
 use mathlib.Core.List.{List, [], _++_, append-assoc}
-use Prim.Native.Nat.{ℕ, _+_, _-_, _≤_}
+use Prim.Native.Nat.{ℕ, _+_, _-_, _≤_, _<_}
 use native.Mathlib.Omega.{arith}
-use lib.ListN.{length, take, drop, length-append}
+use lib.ListN.{length, getD, set, take, drop, length-append}
 use borrow.Rule.Slice.PartMut.{putMid}
-use Rattle.std.proofs.shelf.Lists.{append-nil, drop-all, take-at, drop-at, take-rest, length-drop, drop-drop}
-use Rattle.tree.specs.Written.{over}
+use Rattle.std.proofs.shelf.Lists.{append-nil, drop-all, drop-more, take-all, take-at, take-more, drop-at, take-rest, length-drop, length-take-le, drop-drop, set-append-right}
+use Rattle.fault.specs.Memory.{over}
 
 -- the second list is written into the free end that the first leaves
 pub over-on : {A : Type 0} (xs ys memory mid end : List A) (n : ℕ) → n ≡ length xs → mid ≡ over xs memory →
@@ -29,3 +29,14 @@ length-over xs memory l = rw (length-append, length-drop) (omega arith)
 -- `&s[0..n]`, as the checker reads it
 pub take-front : {A : Type 0} (xs : List A) (n : ℕ) → take (n - 0) xs ≡ take n xs
 take-front xs n = ap (λ (k : ℕ). take k xs) {x = n - 0} {y = n} (omega arith)
+
+-- a list that is written element by element
+module _ {A : Type 0} (xs memory : List A) {out : List A} (i : ℕ) (so-far : out ≡ take i xs ++ drop i memory) where
+  pub over-more : (d v : A) → i < length xs → i < length memory → v ≡ getD xs i d → set out i v ≡ take (i + 1) xs ++ drop (i + 1) memory
+  over-more d v l k e =
+      let t = length-take-le i xs (omega arith) in
+      let z : i - i ≡ 0 = omega arith in
+      rw (so-far, set-append-right (take i xs) (drop i memory) i i v t (omega arith), z, drop-more memory i d k, take-more xs i d l, append-assoc, e)
+
+  pub over-all : i ≡ length xs → out ≡ over xs memory
+  over-all e = so-far ∙ ap₂ _++_ (take-all i xs (omega arith)) (ap (λ (n : ℕ). drop n memory) e)

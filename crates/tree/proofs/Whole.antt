@@ -19,7 +19,8 @@ use Rattle.tree.specs.Receivers.{listFaults}
 use Rattle.tree.specs.Parts.{part}
 use Rattle.tree.specs.Cover.{Work, clean, named, finish, cover}
 use Rattle.tree.specs.Promise.{most, Covers}
-use Rattle.tree.specs.Written.{over, closed, branchOf, coverAnswer}
+use Rattle.fault.specs.Memory.{over}
+use Rattle.tree.specs.Written.{closed, branchOf, coverAnswer}
 use Rattle.tree.proofs.Judged.{sound}
 use Rattle.tree.proofs.Sides.{Beneath}
 use Rattle.tree.proofs.Few.{most-one}

@@ -6,16 +6,17 @@ ghost use mathlib.Core.List.{[]};
 ghost use lib.Dec.{T, leb};
 ghost use lib.ListN.{length, take};
 ghost use Rattle.std.specs.Vec.{made};
-ghost use Rattle.tree.specs.Written.{over, closed, branchOf, countOf, coverAnswer, coverMemory};
+ghost use Rattle.tree.specs.Written.{closed, branchOf, countOf, coverAnswer};
+ghost use Rattle.fault.specs.Memory.{over, afterwards};
 ghost use Rattle.tree.specs.Nodes.{firstBelow};
 ghost use Rattle.tree.specs.Receivers.{Cut, allBelow, risingFrom, rising};
-ghost use Rattle.tree.specs.Cover.{close, work};
+ghost use Rattle.tree.specs.Cover.{close, work, cover};
 ghost use Rattle.tree.specs.Promise.{most, Covers};
 use crate::parts::Part;
 use crate::receivers::SliceReceiverList;
 use crate::receivers::fault_in;
 use crate::subtree::Subtree;
-use fault::Fault;
+use fault::Refusal;
 
 /// What is known below a node. The parts made there stand in lent memory.
 #[derive(Clone, Copy)]
@@ -35,15 +36,6 @@ impl Branch {
             Branch::Named(_, count) => count,
         }
     }
-}
-
-/// Why a cover is not made.
-#[derive(Clone, Copy)]
-pub enum Refusal {
-    /// The list of revoked has a fault, of which this is the lowest.
-    Faulty(Fault),
-    /// The lent memory has no room for the most parts that the list can ask for.
-    NoRoom,
 }
 
 /// How many of the rising receivers come before `middle`.
@@ -132,7 +124,7 @@ fn has_room(revoked: usize, room: usize) -> bool
 /// Writes the parts that cover all receivers but the revoked to the front of `out`, and answers how many they are.
 pub fn cover(height: u8, revoked: &[u32], out: &mut [Part]) -> Result<usize, Refusal>
     ensures answer { λ r. ⌜ r ≡ coverAnswer height (now (revoked .entry)) (length (now (out .entry))) ⌝ }
-    ensures memory { λ r. ⌜ now (out .exit) ≡ coverMemory height (now (revoked .entry)) (now (out .entry)) r ⌝ }
+    ensures memory { λ r. ⌜ now (out .exit) ≡ afterwards r (cover height (now (revoked .entry))) (now (out .entry)) ⌝ }
     ensures covers { λ r. ⌜ made r (λ n. Covers height (now (revoked .entry)) (take n (now (out .exit)))) ⌝ }
 {
     if let Some(fault) = fault_in(height, &revoked) {

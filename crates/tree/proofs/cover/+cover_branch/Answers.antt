@@ -9,7 +9,8 @@ use borrow.Author.Tests.{eqb-true, eqb-false}
 use Rattle.std.proofs.shelf.Lists.{nil-from-length, take-all, take-rest}
 use Rattle.tree.specs.declared.cover.Branch.the-variants.{Named}
 use Rattle.tree.specs.Cover.{work}
-use Rattle.tree.specs.Written.{over, closed}
+use Rattle.fault.specs.Memory.{over}
+use Rattle.tree.specs.Written.{closed}
 use Rattle.tree.proofs.Memory.{take-front}
 use Rattle.tree.proofs.Slices.{rising-weaker}
 use Rattle.tree.proofs.Sides.{none-clean, leaf-named}

@@ -1,0 +1,3 @@
+pub mod Bytes
+mod Listed
+mod Inverse

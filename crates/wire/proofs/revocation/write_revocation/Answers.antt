@@ -1,0 +1,50 @@
+-- The head, the count and the receivers are written one behind the other.
+use mathlib.Core.Path.{_≡_, refl, sym, ap, _∙_, subst}
+use mathlib.Core.List.{List, [], _∷_, _++_}
+use Prim.Native.Nat.{ℕ, _+_, _*_}
+use native.Mathlib.Omega.{arith}
+use lib.ListN.{length, take, drop}
+use borrow.Author.Tests.{le-leb, lt-leb}
+use Rattle.std.proofs.shelf.Lists.{take-at}
+use Rattle.std.specs.shelf.Lists.{joined}
+use Rattle.fault.specs.Lowest.{lowest}
+use Rattle.fault.specs.Memory.{over}
+use Rattle.tree.proofs.Memory.{over-on}
+use Rattle.wire.specs.Words.{bytes4}
+use Rattle.wire.specs.Revocation.{namedFaults, revocationBytes, ReadsAs}
+use Rattle.wire.proofs.Listed.{lowest-named}
+use Rattle.wire.proofs.Inverse.{length-bytes, reads-as}
+use Rattle.wire.proofs.revocation.write_revocation.Needs as need
+use Rattle.wire.proofs.revocation.write_revocation.Needs.{After-lower-of-fault}
+
+found : (c : need.After-lower-of-fault) → c .lower-of-fault .result ≡ lowest (namedFaults (c .args .height) (c .args .receivers .now))
+found c = rw (c .lower-of-fault .ensures .lower, c .fault-in .ensures, c .when .ensures) (lowest-named (c .args .height) (c .args .receivers .now))
+
+pub returns-in-Some : need.returns-in-Some
+returns-in-Some c =
+    let f = sym (c .in-Some .is) ∙ found ((need.at·returns-in-Some c) .After-lower-of-fault) in
+    record { answer = rw (← f); memory = refl; read-back = tt }
+
+pub returns-then-out-size : need.returns-then-out-size
+returns-then-out-size c =
+    let none = sym (c .in-rest .is) ∙ found ((need.at·returns-then-out-size c) .After-lower-of-fault) in
+    let size = length-bytes (c .args .height) (c .args .receivers .now) in
+    let short = lt-leb (length (revocationBytes (c .args .height) (c .args .receivers .now))) (length (c .args .out .now)) (omega (arith, size, c .if-out-size .taken)) in
+    record { answer = rw (← none, short); memory = refl; read-back = tt }
+
+pub returns : need.returns
+returns c =
+    let h = c .args .height in
+    let rs = c .args .receivers .now in
+    let memory = c .args .out .now in
+    let none = sym (c .in-rest .is) ∙ found ((need.at·returns c) .After-lower-of-fault) in
+    let size = length-bytes h rs in
+    let enough = le-leb (length (revocationBytes h rs)) (length memory) (omega (arith, size, c .if-out-size .left)) in
+    let two = over-on (1 ∷ h ∷ []) (bytes4 (length rs)) memory (c .write-head .last .out) (c .write-word .last .out) 2 refl (c .write-head .ensures) (c .write-word .ensures) in
+    let all = over-on (1 ∷ h ∷ bytes4 (length rs)) (joined bytes4 rs) memory _ (c .write-words .last .out) 6 refl two (c .write-words .ensures) in
+    let front = ap (take (6 + 4 * length rs)) all ∙ take-at (revocationBytes h rs) (drop (length (revocationBytes h rs)) memory) (6 + 4 * length rs) size in
+    record {
+      answer = rw (← none, enough, size);
+      memory = all;
+      read-back = subst (λ (s : List ℕ). ReadsAs s h rs) (sym front) (reads-as h rs none);
+    }

@@ -1,0 +1,3 @@
+pub mod Words
+pub mod Head
+pub mod Revocation
