@@ -6,7 +6,7 @@ use Prim.Native.Nat.{ℕ, zero, suc, _+_, _-_, _*_, _≤_, _<_}
 use native.Mathlib.Omega.{arith}
 use native.Mathlib.Nat.{one-mul, zero-add}
 use lib.Dec.{leb}
-use lib.ListN.{length, take, drop, set}
+use lib.ListN.{length, take, drop, set, length-append}
 use Rattle.std.proofs.shelf.Lists.{take-at}
 use Rattle.std.proofs.shelf.Tests.{leb-true}
 use Rattle.std.specs.declared.option.Option.the-variants.{None}
@@ -63,6 +63,9 @@ module _ (h : ℕ) (rs : List ℕ) (memory : List Part) (none : None ≡ lowest 
 
   pub answered : (n : ℕ) → n ≡ length (cover h rs) → Ok n ≡ coverAnswer h rs (length memory)
   answered n e = rw (← none, ← enough, e)
+
+  pub within : (n : ℕ) (after : List Part) → n ≡ length (cover h rs) → after ≡ over (cover h rs) memory → n ≤ length after
+  within n after en ea = omega (arith, en, ap length ea, length-append (cover h rs) (drop (length (cover h rs)) memory))
 
   pub covered : (n : ℕ) (after : List Part) → n ≡ length (cover h rs) → after ≡ over (cover h rs) memory → Covers h rs (take n after)
   covered n after en ea =

@@ -125,6 +125,7 @@ fn has_room(revoked: usize, room: usize) -> bool
 pub fn cover(height: u8, revoked: &[u32], out: &mut [Part]) -> Result<usize, Refusal>
     ensures answer { λ r. ⌜ r ≡ coverAnswer height (now (revoked .entry)) (length (now (out .entry))) ⌝ }
     ensures memory { λ r. ⌜ now (out .exit) ≡ afterwards r (cover height (now (revoked .entry))) (now (out .entry)) ⌝ }
+    ensures within { λ r. ⌜ made r (λ n. n ≤ length (now (out .exit))) ⌝ }
     ensures covers { λ r. ⌜ made r (λ n. Covers height (now (revoked .entry)) (take n (now (out .exit)))) ⌝ }
 {
     if let Some(fault) = fault_in(height, &revoked) {

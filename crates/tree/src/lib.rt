@@ -4,7 +4,7 @@ ghost use Rattle.tree.specs.Promise.{CoverCovers, Worked};
 pub mod cover;
 pub mod parts;
 pub mod receivers;
-pub mod subtree;
+mod subtree;
 
 /// What is promised of covers in trees of every height, and the worked cases.
 pub fn cover_theorems()

@@ -1,6 +1,6 @@
 -- The whole tree is a branch that is closed at node 1.
 use Rattle.tree.proofs.Branches.{same-work, same-rise, same-low}
-use Rattle.tree.proofs.Whole.{room, some-room, beneath-top, top-clean, top-named, answered, covered}
+use Rattle.tree.proofs.Whole.{room, some-room, beneath-top, top-clean, top-named, answered, within, covered}
 use Rattle.tree.proofs.cover.cover.Needs as need
 
 pub cover-branch-requires : need.cover-branch-requires
@@ -29,6 +29,7 @@ returns-in-Clean c =
     record {
       answer = answered h rs memory none enough _ (done .0);
       memory = done .1;
+      within = within h rs memory none enough _ _ (done .0) (done .1);
       covers = covered h rs memory none enough _ _ (done .0) (done .1);
     }
 
@@ -46,5 +47,6 @@ returns-in-Named c =
     record {
       answer = answered h rs memory none enough _ (done .0);
       memory = done .1;
+      within = within h rs memory none enough _ _ (done .0) (done .1);
       covers = covered h rs memory none enough _ _ (done .0) (done .1);
     }
