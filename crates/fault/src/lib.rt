@@ -1,6 +1,7 @@
 //! Why a thing is refused: the causes, the number of each, and the lowest of several.
 //! Assumes nothing.
 ghost use mathlib.Core.Path.{_≡_};
+ghost use lib.Dec.{leb};
 ghost use Rattle.fault.specs.Numbers.{numberOf};
 ghost use Rattle.fault.specs.Lowest.{when, lower, lowest, LowestLeast};
 use std::fmt;
@@ -47,6 +48,12 @@ impl Fault {
             Fault::AllFalse => 9,
             Fault::NotTraceable => 10,
         }
+    }
+
+    fn is_at_most(self, other: Fault) -> bool
+        ensures { λ r. ⌜ r ≡ leb (numberOf self) (numberOf other) ⌝ }
+    {
+        self.number() <= other.number()
     }
 
     /// The fault, if there is cause for it.
@@ -103,5 +110,5 @@ pub fn lower_of(a: Option<Fault>, b: Option<Fault>) -> Option<Fault>
     let Some(g) = b else {
         return a;
     };
-    if f.number() <= g.number() { a } else { b }
+    if f.is_at_most(g) { a } else { b }
 }

@@ -1,15 +1,15 @@
 //! The revocation list as a file. Assumes nothing.
 ghost use mathlib.Core.Path.{_≡_};
 ghost use mathlib.Core.Bool.{cond};
-ghost use Prim.Native.Nat.{_+_, _*_, _≤_};
-ghost use lib.Dec.{eqb};
+ghost use Prim.Native.Nat.{_+_, _*_, _^_, _<_, _≤_};
+ghost use lib.Dec.{eqb, ltb};
 ghost use lib.ListN.{length, take};
 ghost use Rattle.std.specs.declared.option.Option.the-variants.{Some, None};
 ghost use Rattle.std.specs.Vec.{made};
-ghost use Rattle.fault.specs.Lowest.{judged};
+ghost use Rattle.fault.specs.Lowest.{judged, lowest};
 ghost use Rattle.fault.specs.Memory.{afterwards, over};
 ghost use Rattle.wire.specs.Words.{words};
-ghost use Rattle.wire.specs.Revocation.{countIn, revokedIn, revocationBytes, revocationFaults, revocationIn, writeAnswer, ReadsAs};
+ghost use Rattle.wire.specs.Revocation.{maxRevoked, namedFaults, countIn, revokedIn, revocationBytes, revocationFaults, revocationIn, writeAnswer, ReadsAs};
 use crate::head::read_head;
 use crate::head::write_head;
 use crate::words::Words;
@@ -35,6 +35,30 @@ pub struct Revocation {
     pub count: usize,
 }
 
+/// How many bytes a list of so many receivers has.
+fn size_of_list(count: usize) -> usize
+    requires { ⌜ count < 2 ^ 32 ⌝ }
+    ensures { λ r. ⌜ r ≡ 6 + 4 * count ⌝ }
+{
+    4 * count + 6
+}
+
+fn is_too_many(count: usize) -> bool
+    ensures { λ r. ⌜ r ≡ ltb maxRevoked count ⌝ }
+{
+    count > MAX_REVOKED
+}
+
+/// The lowest fault of receivers that a list names.
+fn fault_in_named<L: ReceiverList>(height: u8, receivers: &L) -> Option<Fault>
+    ensures { λ r. ⌜ r ≡ lowest (namedFaults height (list (now (receivers .entry)))) ⌝ }
+{
+    lower_of(
+        fault_in(height, receivers),
+        Fault::TooManyRevoked.when(is_too_many(receivers.count())),
+    )
+}
+
 /// How many receivers a list has, if it has as many as it says.
 fn count_in(bytes: &[u8]) -> Option<usize>
     ensures { λ r. ⌜ r ≡ cond (eqb (length (now (bytes .entry))) (6 + 4 * countIn (now (bytes .entry)))) (Some (countIn (now (bytes .entry)))) None ⌝ }
@@ -43,7 +67,7 @@ fn count_in(bytes: &[u8]) -> Option<usize>
         return None;
     }
     let count = Words { bytes: &bytes[2..] }.at(0) as usize;
-    if bytes.len() == 6 + 4 * count {
+    if bytes.len() == size_of_list(count) {
         Some(count)
     } else {
         None
@@ -52,7 +76,7 @@ fn count_in(bytes: &[u8]) -> Option<usize>
 
 /// Copies receivers to the front of lent memory.
 fn copy_words(from: Words, to: &mut [u32; MAX_REVOKED])
-    requires { ⌜ length (words (now (from .bytes))) ≤ 4096 ⌝ }
+    requires { ⌜ length (words (now (from .bytes))) ≤ maxRevoked ⌝ }
     ensures { λ _. ⌜ now (to .exit) ≡ over (words (now (from .entry .bytes))) (now (to .entry)) ⌝ }
 {
     for i in 0..from.count() {
@@ -74,11 +98,7 @@ pub fn read_revocation(
         return Err(Fault::Malformed);
     };
     let words = Words { bytes: &bytes[6..] };
-    let fault = lower_of(
-        fault_in(height, &words),
-        Fault::TooManyRevoked.when(count > MAX_REVOKED),
-    );
-    if let Some(fault) = fault {
+    if let Some(fault) = fault_in_named(height, &words) {
         return Err(fault);
     }
     copy_words(words, receivers);
@@ -91,14 +111,10 @@ pub fn write_revocation(height: u8, receivers: &[u32], out: &mut [u8]) -> Result
     ensures memory { λ r. ⌜ now (out .exit) ≡ afterwards r (revocationBytes height (now (receivers .entry))) (now (out .entry)) ⌝ }
     ensures read_back { λ r. ⌜ made r (λ n. ReadsAs (take n (now (out .exit))) height (now (receivers .entry))) ⌝ }
 {
-    let fault = lower_of(
-        fault_in(height, &receivers),
-        Fault::TooManyRevoked.when(receivers.len() > MAX_REVOKED),
-    );
-    if let Some(fault) = fault {
+    if let Some(fault) = fault_in_named(height, &receivers) {
         return Err(Refusal::Faulty(fault));
     }
-    let size = 6 + 4 * receivers.len();
+    let size = size_of_list(receivers.len());
     if out.len() < size {
         return Err(Refusal::NoRoom);
     }

@@ -12,14 +12,14 @@ loop-i-again g c =
     let i = c .loop-i .i in
     let inv = c .loop-i .inv in
     let within : i < length all = omega (arith, c .loop-i-test .taken, c .count-i-end .ensures) in
-    let here = c .from-receiver .ensures ∙ c .at .ensures in
-    rw (here, c .size-of-tree-end .ensures)
-    (below-more all i (c .loop-i .outside) _ within ∙ inv .0, rising-more all i (c .loop-i .unordered) (c .loop-i .least) within ∙ inv .1)
+    let found = c .next-found .ensures in
+    rw (found .least, found .outside, found .unordered, c .at .ensures, c .size-of-tree-end .ensures)
+    (below-more all i (c .loop-i .found .outside) _ within ∙ inv .0, rising-more all i (c .loop-i .found .unordered) (c .loop-i .found .least) within ∙ inv .1)
 
 pub returns : need.returns
 returns g c =
     let all = g .L·ReceiverList .list (c .args .receivers .now) in
     let inv = c .loop-i .inv in
-    rw (c .lower-of .ensures .lower, c .when .ensures, c .when-2 .ensures)
-    (judged-all (c .args .height) all (c .loop-i .i) (c .loop-i .least) (c .loop-i .outside) (c .loop-i .unordered)
-    (omega arith) (omega arith) (omega (arith, c .loop-i-test .left, c .count-i-end .ensures)) (inv .0) (inv .1))
+    c .fault .ensures
+    ∙ judged-all (c .args .height) all (c .loop-i .i) (c .loop-i .found .least) (c .loop-i .found .outside) (c .loop-i .found .unordered)
+    (omega arith) (omega arith) (omega (arith, c .loop-i-test .left, c .count-i-end .ensures)) (inv .0) (inv .1)

@@ -9,5 +9,5 @@ use Rattle.tree.proofs.receivers.fault_in.Given as given
 abbrev pub Inv-loop-i : given.InvT-loop-i
 Inv-loop-i g l =
     let all = g .L·ReceiverList .list (l .receivers) in
-    ((l .outside || not (allBelow (2 ^ l .height) (drop (l .i) all))) ≡ not (allBelow (2 ^ l .height) all))
-    × ((l .unordered || not (risingFrom (l .least) (drop (l .i) all))) ≡ not (rising all))
+    ((l .found .outside || not (allBelow (2 ^ l .height) (drop (l .i) all))) ≡ not (allBelow (2 ^ l .height) all))
+    × ((l .found .unordered || not (risingFrom (l .found .least) (drop (l .i) all))) ≡ not (rising all))

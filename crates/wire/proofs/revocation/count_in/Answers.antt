@@ -18,16 +18,16 @@ at-count-requires c κs =
     let s = c .args .bytes .now in
     rw (take-rest s 2) (omega (arith, length-words _ (drop 2 s) refl, length-drop 2 s))
 
-pub returns-then-bytes-count : need.returns-then-bytes-count
-returns-then-bytes-count c =
+pub returns-then-bytes-size-of-list : need.returns-then-bytes-size-of-list
+returns-then-bytes-size-of-list c =
     let s = c .args .bytes .now in
     let e = (rw (take-rest s 2) at (c .at-count .ensures)) ∙ first-word s (c .if-bytes-lt6 .left) in
-    let f = eq-eqb (length s) (6 + 4 * wordAt s 2) (omega (arith, e, c .if-bytes-count .taken)) in
+    let f = eq-eqb (length s) (6 + 4 * wordAt s 2) (omega (arith, e, c .size-of-list .ensures, c .if-bytes-size-of-list .taken)) in
     rw (f, e)
 
-pub returns-else-bytes-count : need.returns-else-bytes-count
-returns-else-bytes-count c =
+pub returns-else-bytes-size-of-list : need.returns-else-bytes-size-of-list
+returns-else-bytes-size-of-list c =
     let s = c .args .bytes .now in
     let e = (rw (take-rest s 2) at (c .at-count .ensures)) ∙ first-word s (c .if-bytes-lt6 .left) in
-    let f = ne-eqb (length s) (6 + 4 * wordAt s 2) (λ q. c .if-bytes-count .left (omega (arith, e, q))) in
+    let f = ne-eqb (length s) (6 + 4 * wordAt s 2) (λ q. c .if-bytes-size-of-list .left (omega (arith, e, c .size-of-list .ensures, q))) in
     rw f

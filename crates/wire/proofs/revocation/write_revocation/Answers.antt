@@ -15,20 +15,16 @@ use Rattle.wire.specs.Revocation.{namedFaults, revocationBytes, ReadsAs}
 use Rattle.wire.proofs.Listed.{lowest-named}
 use Rattle.wire.proofs.Inverse.{length-bytes, reads-as}
 use Rattle.wire.proofs.revocation.write_revocation.Needs as need
-use Rattle.wire.proofs.revocation.write_revocation.Needs.{After-lower-of-fault}
-
-found : (c : need.After-lower-of-fault) → c .lower-of-fault .result ≡ lowest (namedFaults (c .args .height) (c .args .receivers .now))
-found c = rw (c .lower-of-fault .ensures .lower, c .fault-in .ensures, c .when .ensures) (lowest-named (c .args .height) (c .args .receivers .now))
 
 pub returns-in-Some : need.returns-in-Some
 returns-in-Some c =
-    let f = sym (c .in-Some .is) ∙ found ((need.at·returns-in-Some c) .After-lower-of-fault) in
+    let f = c .in-Some .ensures tt in
     record { answer = rw (← f); memory = refl; read-back = tt }
 
 pub returns-then-out-size : need.returns-then-out-size
 returns-then-out-size c =
-    let none = sym (c .in-rest .is) ∙ found ((need.at·returns-then-out-size c) .After-lower-of-fault) in
-    let size = length-bytes (c .args .height) (c .args .receivers .now) in
+    let none = c .in-rest .ensures tt in
+    let size = sym (c .size-of-list-size .ensures ∙ sym (length-bytes (c .args .height) (c .args .receivers .now))) in
     let short = lt-leb (length (revocationBytes (c .args .height) (c .args .receivers .now))) (length (c .args .out .now)) (omega (arith, size, c .if-out-size .taken)) in
     record { answer = rw (← none, short); memory = refl; read-back = tt }
 
@@ -37,12 +33,13 @@ returns c =
     let h = c .args .height in
     let rs = c .args .receivers .now in
     let memory = c .args .out .now in
-    let none = sym (c .in-rest .is) ∙ found ((need.at·returns c) .After-lower-of-fault) in
-    let size = length-bytes h rs in
+    let none = c .in-rest .ensures tt in
+    let size = sym (c .size-of-list-size .ensures ∙ sym (length-bytes h rs)) in
+    let n = c .size-of-list-size .result in
     let enough = le-leb (length (revocationBytes h rs)) (length memory) (omega (arith, size, c .if-out-size .left)) in
     let two = over-on (1 ∷ h ∷ []) (bytes4 (length rs)) memory (c .write-head .last .out) (c .write-word .last .out) 2 refl (c .write-head .ensures) (c .write-word .ensures) in
     let all = over-on (1 ∷ h ∷ bytes4 (length rs)) (joined bytes4 rs) memory _ (c .write-words .last .out) 6 refl two (c .write-words .ensures) in
-    let front = ap (take (6 + 4 * length rs)) all ∙ take-at (revocationBytes h rs) (drop (length (revocationBytes h rs)) memory) (6 + 4 * length rs) size in
+    let front = ap (take n) all ∙ take-at (revocationBytes h rs) (drop (length (revocationBytes h rs)) memory) n size in
     record {
       answer = rw (← none, enough, size);
       memory = all;

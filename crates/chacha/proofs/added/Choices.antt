@@ -1,0 +1,12 @@
+-- The words before i are sums, and the others are as they were.
+use Prim.Native.Nat.{ℕ, _<_, _≤_}
+use mathlib.Core.Path.{_≡_}
+use lib.ListN.{length, getD}
+use Rattle.chacha.specs.Rfc8439.{plus}
+use Rattle.chacha.proofs.added.Given as given
+
+abbrev pub Inv-loop-i : given.InvT-loop-i
+Inv-loop-i l =
+    (length (l .s) ≡ 16)
+    × ((k : ℕ) → k < l .i → getD (l .s) k 0 ≡ plus (getD (l .entry .s) k 0) (getD (l .word-items) k 0))
+    × ((k : ℕ) → l .i ≤ k → getD (l .s) k 0 ≡ getD (l .entry .s) k 0)

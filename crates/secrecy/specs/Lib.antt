@@ -1,0 +1,9 @@
+pub mod Lists
+pub mod Terms
+pub mod Held
+pub mod Air
+pub mod Gets
+pub mod Promise
+pub mod Cases
+pub mod Worlds
+pub mod Blind
