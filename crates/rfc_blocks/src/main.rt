@@ -1,4 +1,4 @@
-// Puts the test vectors of RFC 8439 to the proved block function, and prints of each whether its block agrees.
+// Puts the test vectors of RFC 8439 to the proved block function, and prints each block with whether it agrees.
 ghost use mathlib.Core.Path.{_≡_};
 ghost use Rattle.chacha.specs.Rfc8439.{chacha20Block};
 ghost use Rattle.std.specs.Orderings.{Decides};
@@ -80,22 +80,38 @@ static TEST_VECTORS: [TestVector; 6] = [
 ];
 
 impl TestVector {
+    /// The block as the proved function gives it.
+    fn computed(&self) -> [u8; 64]
+        ensures { λ r. ⌜ r ≡ chacha20Block (now (now (self .entry) .key)) (now (self .entry) .counter) (now (now (self .entry) .nonce)) ⌝ }
+    {
+        chacha::block(*self.key, self.counter, *self.nonce)
+    }
+
     fn agrees(&self) -> bool
         ensures { λ r. ⌜ Decides r (chacha20Block (now (now (self .entry) .key)) (now (self .entry) .counter) (now (now (self .entry) .nonce)) ≡ now (now (self .entry) .block)) ⌝ }
     {
-        chacha::block(*self.key, self.counter, *self.nonce) == *self.block
+        self.computed() == *self.block
     }
+}
+
+fn print_hex(rt: &LibcRuntime, bytes: &[u8]) -> io::Result<()> {
+    for byte in bytes {
+        print!(rt, "{byte:02x}")?;
+    }
+    Ok(())
 }
 
 fn main(rt: LibcRuntime) -> io::Result<()> {
     let mut agreeing = 0usize;
     for vector in &TEST_VECTORS {
         let section = vector.section;
+        print!(rt, "{section}: ")?;
+        print_hex(&rt, &vector.computed())?;
         if vector.agrees() {
             agreeing += 1;
-            println!(rt, "{section}: agrees")?;
+            println!(rt, " agrees")?;
         } else {
-            println!(rt, "{section}: differs")?;
+            println!(rt, " differs")?;
         }
     }
     let all = TEST_VECTORS.len();

@@ -9,4 +9,4 @@ use Rattle.rfc_blocks.proofs.TestVector.agrees.Needs as need
 pub returns : need.returns
 returns c =
     let P : List ℕ → Type 0 = λ block. Decides (c .eq .result) (block ≡ c .args .self .now .block .now) in
-    subst P (c .block .ensures) (matches-decides _ _ _ (c .eq .ensures))
+    subst P (c .computed .ensures) (matches-decides _ _ _ (c .eq .ensures))
