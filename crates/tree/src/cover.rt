@@ -23,7 +23,7 @@ use fault::Refusal;
 enum Branch {
     /// Nobody is revoked there.
     Clean,
-    /// The named node, and how many parts were written: all that is not below the named one is covered by them.
+    /// Somebody is: the named node, and how many parts were written for the side that is closed there.
     Named(u32, usize),
 }
 

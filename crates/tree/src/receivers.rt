@@ -8,6 +8,7 @@ ghost use lib.ListN.{length, getD};
 ghost use denote.Ref.{now};
 ghost use Rattle.fault.specs.declared.Fault.the-variants.{OutOfRange, NotRising};
 ghost use Rattle.fault.specs.Lowest.{when, lower, lowest};
+ghost use Rattle.tree.specs.Nodes.{maxHeight};
 ghost use Rattle.tree.specs.Receivers.{listFaults};
 use fault::Fault;
 use fault::lower_of;
@@ -41,7 +42,7 @@ pub impl<'a> ReceiverList for &'a [u32] as SliceReceiverList {
 
 /// How many receivers a tree of this height has.
 fn size_of_tree(height: u8) -> u64
-    requires { ⌜ height ≤ 16 ⌝ }
+    requires { ⌜ height ≤ maxHeight ⌝ }
     ensures { λ r. ⌜ r ≡ 2 ^ height ⌝ }
 {
     1 << height

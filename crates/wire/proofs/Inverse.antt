@@ -1,14 +1,13 @@
 -- Reading a revocation list and writing one are inverses. Assumes nothing.
 use mathlib.Core.Path.{_≡_, refl, sym, ap, ap₂, _∙_}
-use mathlib.Core.Bool.{Bool, true, false, _||_, not}
+use mathlib.Core.Bool.{true, _||_, not}
 use mathlib.Core.List.{List, [], _∷_, _++_}
 use Prim.Native.Nat.{ℕ, zero, suc, _+_, _*_, _^_, _≤_, _<_}
 use native.Mathlib.Omega.{arith}
 use lib.Dec.{T, eqb, ltb, ltb→lt}
 use lib.Pow.{pow-mono}
-use lib.ListN.{length, getD, drop, length-append}
+use lib.ListN.{length, getD}
 use Rattle.std.proofs.shelf.Tests.{or-parts, eqb-true, eq-eqb, ltb-false, le-ltb, not-false}
-use Rattle.std.specs.shelf.Lists.{joined}
 use Rattle.std.specs.declared.option.Option.the-variants.{None}
 use Rattle.fault.specs.declared.Fault.{Fault}
 use Rattle.fault.specs.declared.Fault.the-variants.{Malformed, OutOfRange}
@@ -18,7 +17,7 @@ use Rattle.tree.specs.Nodes.{maxHeight}
 use Rattle.tree.specs.Receivers.{isHeight, allBelow}
 use Rattle.tree.proofs.Tests.{T-both}
 use Rattle.tree.proofs.Judged.{sound-height, sound}
-use Rattle.wire.specs.Words.{bytes4, wordAt, words}
+use Rattle.wire.specs.Words.{bytes4, words}
 use Rattle.wire.specs.Head.{orElse, headFaults}
 use Rattle.wire.specs.Revocation.{namedFaults, countIn, revokedIn, revocationBytes, revocationFaults, ReadsAs}
 use Rattle.wire.proofs.Bytes.{Below, length-words, bytes-of-word, bytes-of-words, word-of-bytes, words-of-bytes, length-joined}

@@ -1,4 +1,4 @@
 //! The file formats, read and written.
-pub mod head;
+mod head;
 pub mod revocation;
-pub mod words;
+mod words;

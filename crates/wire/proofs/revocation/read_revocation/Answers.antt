@@ -1,5 +1,5 @@
 -- The reader comes to the faults in their order, and copies the receivers where there are none.
-use mathlib.Core.Path.{_≡_, refl, sym, ap, _∙_}
+use mathlib.Core.Path.{refl, sym, ap, _∙_}
 use Rattle.std.proofs.shelf.Lists.{take-rest}
 use Rattle.std.specs.declared.option.Option.{Option}
 use Rattle.fault.specs.declared.Fault.{Fault}

@@ -1,18 +1,15 @@
 -- The head, the count and the receivers are written one behind the other.
-use mathlib.Core.Path.{_≡_, refl, sym, ap, _∙_, subst}
-use mathlib.Core.List.{List, [], _∷_, _++_}
-use Prim.Native.Nat.{ℕ, _+_, _*_}
+use mathlib.Core.Path.{refl, sym, ap, _∙_, subst}
+use mathlib.Core.List.{List, [], _∷_}
+use Prim.Native.Nat.{ℕ}
 use native.Mathlib.Omega.{arith}
 use lib.ListN.{length, take, drop}
 use borrow.Author.Tests.{le-leb, lt-leb}
 use Rattle.std.proofs.shelf.Lists.{take-at}
 use Rattle.std.specs.shelf.Lists.{joined}
-use Rattle.fault.specs.Lowest.{lowest}
-use Rattle.fault.specs.Memory.{over}
 use Rattle.tree.proofs.Memory.{over-on}
 use Rattle.wire.specs.Words.{bytes4}
-use Rattle.wire.specs.Revocation.{namedFaults, revocationBytes, ReadsAs}
-use Rattle.wire.proofs.Listed.{lowest-named}
+use Rattle.wire.specs.Revocation.{revocationBytes, ReadsAs}
 use Rattle.wire.proofs.Inverse.{length-bytes, reads-as}
 use Rattle.wire.proofs.revocation.write_revocation.Needs as need
 

@@ -1,6 +1,6 @@
 -- As many numbers as turns are written, and the rest of the memory is as it was.
 use mathlib.Core.Path.{_≡_}
-use lib.ListN.{length, take}
+use lib.ListN.{take}
 use Rattle.std.specs.shelf.Lists.{joined}
 use Rattle.fault.specs.Memory.{over}
 use Rattle.wire.specs.Words.{bytes4}
