@@ -8,11 +8,11 @@ use lib.Dec.{T, lit<}
 use Rattle.tree.specs.Nodes.{below}
 use Rattle.tree.specs.Receivers.{isIn, allBelow}
 use Rattle.tree.specs.Parts.{part, holds}
+use Rattle.tree.specs.Ways.{hanging, above}
 use Rattle.tree.specs.Cover.{cover, work}
 use Rattle.tree.proofs.Neat.{neat}
 use Rattle.secrecy.specs.Lists.{_∈_, different}
 use Rattle.secrecy.specs.Terms.{label}
-use Rattle.secrecy.specs.Held.{hanging, above}
 use Rattle.secrecy.specs.Air.{Sending, Trial}
 use Rattle.secrecy.specs.Promise.{Sound}
 use Rattle.secrecy.specs.Cases.{LabelsOfTwo, StepsOfTwo, KeysOfZeroAndFive, runSendings, show, repeated, sameNumber, runTrials, RunStands, NumberTwiceHappens}

@@ -14,11 +14,12 @@ use Rattle.tree.specs.declared.parts.Part.{Part}
 use Rattle.tree.specs.Nodes.{leaf, below}
 use Rattle.tree.specs.Receivers.{allBelow}
 use Rattle.tree.specs.Parts.{part, holds}
+use Rattle.tree.specs.Ways.{sibling}
 use Rattle.tree.proofs.Tests.{T-true, true-T, not-true}
 use Rattle.tree.proofs.Up.{up, up-le, up-half, up-add, up-far, Under, below-up, under-below, below-not-mono}
 use Rattle.secrecy.specs.Lists.{_∈_}
 use Rattle.secrecy.specs.Terms.{Term, Start, isLabel, label, labelOf, made}
-use Rattle.secrecy.specs.Held.{sibling, held, heldBy, Knows}
+use Rattle.secrecy.specs.Held.{held, heldBy, Knows}
 use Rattle.secrecy.specs.Promise.{SomeoneIn, HeldLabels}
 use Rattle.secrecy.proofs.Lists.{in-joined, joined-in, all-lt}
 use Rattle.secrecy.proofs.Made.{made-self, by-label}

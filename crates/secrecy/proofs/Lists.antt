@@ -98,3 +98,7 @@ by-value {A} f (x ∷ xs) d a b m n e = go (λ p q. by-value f xs (both .1) a b 
     go f′ (inl p) (inr q) = absurd (fresh b q (ap f (sym p) ∙ e))
     go f′ (inr p) (inl q) = absurd (fresh a p (ap f (sym q) ∙ sym e))
     go f′ (inr p) (inr q) = f′ p q
+
+pub in-map : {A B : Type 0} (f : A → B) (xs : List A) (b : B) → b ∈ map f xs → (a : A) × (a ∈ xs) × (b ≡ f a)
+in-map f [] b m = absurd (List·Memᴰ·not-nil m)
+in-map f (x ∷ xs) b m = ⊎-elim (λ e. (x, here refl, e)) (λ n. let w = in-map f xs b n in (w .0, there (w .1), w .2)) (List·Memᴰ·cases-cons m)

@@ -3,4 +3,5 @@ pub mod Receivers
 pub mod Parts
 pub mod Cover
 pub mod Promise
+pub mod Ways
 pub mod Written
