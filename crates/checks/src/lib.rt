@@ -7,6 +7,7 @@ mod tests {
     use std::test::*;
     use tree::cover::cover;
     use tree::parts::Part;
+    use wire::labels::read_labels;
     use wire::revocation::MAX_REVOKED;
     use wire::revocation::read_revocation;
     use wire::revocation::write_revocation;
@@ -53,6 +54,32 @@ mod tests {
         let mut receivers = [7; MAX_REVOKED];
         check(read_revocation(&bytes[0..size], &mut receivers).is_ok())?;
         check(receivers[0] == 0 && receivers[1] == 5 && receivers[2] == 7).note("the receivers")
+    }
+
+    // The number of the refusal of the labels of a receiver of a tree of height 1, with one label of this place, or 0.
+    fn labels_refusal(receiver: u8, first: u8, node: u8) -> u8 {
+        let mut bytes = [0; 78];
+        bytes[0] = 2;
+        bytes[1] = 1;
+        bytes[5] = receiver;
+        bytes[41] = first;
+        bytes[45] = node;
+        match read_labels(&bytes) {
+            Ok(_) => 0,
+            Err(fault) => fault.number(),
+        }
+    }
+
+    #[test]
+    fn labels_are_refused_by_their_lowest_fault() -> Result<(), Fail> {
+        check_eq(labels_refusal(0, 1, 3), 0).note("receiver 0 has the label of 3 under 1")?;
+        check_eq(labels_refusal(1, 1, 2), 0).note("receiver 1 has that of 2")?;
+        check_eq(labels_refusal(0, 1, 2), 6).note("on its own way")?;
+        check_eq(labels_refusal(0, 3, 1), 6).note("upside down")?;
+        check_eq(labels_refusal(2, 1, 3), 2).note("a receiver that is not in the tree")?;
+        check_eq(labels_refusal(0, 1, 4), 2).note("a node that is not in the tree")?;
+        check_eq(labels_refusal(0, 0, 3), 2).note("no node")?;
+        check(matches!(read_labels(b"\x02\x01\0\0\0\0"), Err(Fault::Malformed))).note("cut")
     }
 
     #[test]

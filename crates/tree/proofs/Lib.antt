@@ -12,3 +12,4 @@ pub mod Memory
 mod Branches
 mod Forks
 mod Whole
+mod Walked

@@ -4,4 +4,5 @@ pub mod Parts
 pub mod Cover
 pub mod Promise
 pub mod Ways
+pub mod Walks
 pub mod Written

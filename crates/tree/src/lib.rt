@@ -5,6 +5,8 @@ pub mod cover;
 pub mod parts;
 pub mod receivers;
 mod subtree;
+mod walk;
+pub mod way;
 
 /// What is promised of covers in trees of every height, and the worked cases.
 pub fn cover_theorems()

@@ -41,7 +41,7 @@ pub impl<'a> ReceiverList for &'a [u32] as SliceReceiverList {
 }
 
 /// How many receivers a tree of this height has.
-fn size_of_tree(height: u8) -> u64
+pub(crate) fn size_of_tree(height: u8) -> u64
     requires { ⌜ height ≤ maxHeight ⌝ }
     ensures { λ r. ⌜ r ≡ 2 ^ height ⌝ }
 {

@@ -1,3 +1,5 @@
 pub mod Bytes
 mod Listed
 mod Inverse
+mod Places
+mod Labelled

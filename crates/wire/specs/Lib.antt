@@ -1,3 +1,4 @@
 pub mod Words
 pub mod Head
 pub mod Revocation
+pub mod Labels

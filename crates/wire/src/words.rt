@@ -9,7 +9,7 @@ ghost use Rattle.wire.specs.Words.{bytes4, wordAt, words};
 use tree::receivers::ReceiverList;
 
 /// The number in the four bytes from a place on.
-fn word_at(bytes: &[u8], place: usize) -> u32
+pub fn word_at(bytes: &[u8], place: usize) -> u32
     requires { ⌜ place + 4 ≤ length (now bytes) ⌝ }
     ensures { λ r. ⌜ r ≡ wordAt (now (bytes .entry)) place ⌝ }
 {
