@@ -1,10 +1,9 @@
 -- Each turn hands one label on from what is to come to what has been found.
-use mathlib.Core.Path.{_≡_, sym, ap, _∙_}
+use mathlib.Core.Path.{_≡_, sym, _∙_}
 use Prim.Native.Nat.{_%_}
 use native.Mathlib.Omega.{arith}
 use lib.ListN.{length, drop}
 use Rattle.std.proofs.shelf.Lists.{take-rest, length-drop}
-use Rattle.wire.specs.Labels.{places, allInTree}
 use Rattle.wire.proofs.Places.{all-more, all-none}
 use Rattle.wire.proofs.labels.all_in_tree.Needs as need
 
