@@ -21,6 +21,12 @@ pub fn block(key: [u8; 32], counter: u32, nonce: [u8; 12]) -> [u8; 64]
     block_from(initial_state(key, counter, nonce))
 }
 
+/// That the definition is the RFC's: the examples that the RFC prints follow from it.
+pub fn rfc_examples()
+    ensures quarter_round { λ _. ⌜ QuarterRoundExample ⌝ }
+    ensures block { λ _. ⌜ BlockExample ⌝ }
+{}
+
 fn initial_state(key: [u8; 32], counter: u32, nonce: [u8; 12]) -> State
     ensures { λ r. ⌜ r ≡ initialState key counter nonce ⌝ }
 {
@@ -58,8 +64,7 @@ fn word(bytes: &[u8], k: usize) -> u32
 }
 
 fn block_from(start: State) -> [u8; 64]
-    ensures value { λ r. ⌜ r ≡ blockFrom start ⌝ }
-    ensures example { λ _. ⌜ BlockExample ⌝ }
+    ensures { λ r. ⌜ r ≡ blockFrom start ⌝ }
 {
     serialized(added(twenty_rounds(start), start))
 }
@@ -95,8 +100,7 @@ fn diagonal_round(s: &mut State)
 /// The quarter round on the words at the places `x`, `y`, `z` and `w`.
 fn quarter_round(s: &mut State, x: usize, y: usize, z: usize, w: usize)
     requires { ⌜ x < 16 ⌝ ∗ ⌜ y < 16 ⌝ ∗ ⌜ z < 16 ⌝ ∗ ⌜ w < 16 ⌝ }
-    ensures after { λ _. ⌜ now (s .exit) ≡ quarterRoundAt x y z w (now (s .entry)) ⌝ }
-    ensures example { λ _. ⌜ QuarterRoundExample ⌝ }
+    ensures { λ _. ⌜ now (s .exit) ≡ quarterRoundAt x y z w (now (s .entry)) ⌝ }
 {
     (s[x], s[y], s[z], s[w]) = quarter(s[x], s[y], s[z], s[w]);
 }

@@ -1,3 +1,4 @@
+-- The model, from terms to the air and what can be worked out, over terms and then over bytes. The main theorems are in Promise and Blind.
 pub mod Lists
 pub mod Terms
 pub mod Held

@@ -1,3 +1,4 @@
+-- What the proofs of the functions share, and what those of other crates may cite.
 pub mod Tests
 pub mod Up
 pub mod Exact

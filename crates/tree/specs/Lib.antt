@@ -1,3 +1,4 @@
+-- The tree and its parts, covers, and what hangs off a receiver's way. The main theorem is in Promise.
 pub mod Nodes
 pub mod Receivers
 pub mod Parts

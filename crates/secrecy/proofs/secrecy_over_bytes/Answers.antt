@@ -1,3 +1,4 @@
+-- Each statement by its proof.
 use Rattle.secrecy.proofs.ShownBytes.{shows-bytes, only-left}
 use Rattle.secrecy.proofs.Header.{header-bytes, some-world}
 use Rattle.secrecy.proofs.View.{covered}

@@ -1,3 +1,4 @@
+-- Each statement by its proof.
 use Rattle.secrecy.proofs.Way.{held-count}
 use Rattle.secrecy.proofs.Held.{held-labels}
 use Rattle.secrecy.proofs.Exact.{key-from-labels, session-from-labels, trials-give-nothing, more-air}

@@ -1,3 +1,4 @@
+-- Each statement by its proof.
 use Rattle.secrecy.proofs.Cases.{labels-of-two, steps-of-two, keys-of-zero-and-five, run-stands, number-twice-happens}
 use Rattle.secrecy.proofs.worked_cases.Needs as need
 

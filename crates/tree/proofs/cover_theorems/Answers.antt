@@ -1,3 +1,4 @@
+-- Each statement by its proof.
 use Rattle.tree.proofs.Covers.{covers, worked-cases}
 use Rattle.tree.proofs.cover_theorems.Needs as need
 

@@ -1,3 +1,4 @@
+-- Four bytes are a word.
 use mathlib.Core.Path.{refl, sym}
 use Rattle.wire.proofs.Bytes.{length-words}
 use Rattle.wire.proofs.words.WordsReceiverList.count.Needs as need
