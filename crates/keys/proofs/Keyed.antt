@@ -8,7 +8,7 @@ use Rattle.std.specs.declared.option.Option.{Option}
 use Rattle.std.specs.declared.option.Option.the-variants.{Some, None}
 use Rattle.tree.specs.declared.parts.Part.{Part}
 use Rattle.tree.specs.Parts.{proper}
-use Rattle.tree.proofs.Tests.{true-T}
+use Rattle.tree.proofs.Tests.{true-T, told}
 use Rattle.secrecy.specs.Terms.{Start, Middle, labelOf}
 use Rattle.secrecy.specs.Worlds.{Point, bytes}
 use Rattle.keys.specs.Asking.{point}
@@ -16,7 +16,6 @@ use Rattle.keys.specs.Drawn.{Draws, world}
 use Rattle.keys.specs.Down.{stepsDown, lastNodes, down}
 use Rattle.keys.specs.Promise.{WorksOut, PartKey, AskedDown, AskedKey}
 use Rattle.keys.proofs.Asked.{asked-more}
-use Rattle.keys.proofs.Steps.{told}
 use Rattle.keys.proofs.Downs.{part-down}
 
 module _ (f : List ℕ → ℕ → List ℕ) (h : ℕ) (p : Part) (n : ℕ)

@@ -1,7 +1,7 @@
 -- How far one node is below another. Assumes nothing.
 use mathlib.Core.Path.{_≡_, refl, sym, ap, _∙_}
 use mathlib.Core.Logic.{_⊎_, inl, inr, ⊎-elim}
-use mathlib.Core.Bool.{Bool, true, false, cond, _&&_}
+use mathlib.Core.Bool.{true, false, cond, _&&_}
 use Prim.Native.Nat.{ℕ, zero, suc, _<_, _≤_, _/_, _^_}
 use native.Mathlib.Omega.{arith}
 use lib.Dec.{eqb, ltb}
@@ -15,11 +15,6 @@ use Rattle.tree.proofs.Tests.{not-true, true-T}
 use Rattle.tree.proofs.Up.{up, up-le, up-lt, up-far, Under, below-up, up-below, under-below}
 use Rattle.secrecy.proofs.Labels.{proper-is}
 use Rattle.keys.specs.Down.{reaches, stepsDown}
-
--- a number was told, so there is one
-pub told : (b : Bool) (m n : ℕ) → _≡_ {A = Option ℕ} (Some m) (cond b (Some n) None) → (b ≡ true) × (m ≡ n)
-told true m n e = (refl, cc)
-told false m n e = absurd (let z : _≡_ {A = ℕ} 0 1 = cc in omega arith)
 
 pub steps-none : (k i : ℕ) → stepsDown k i i ≡ 0
 unfolding stepsDown

@@ -8,10 +8,6 @@ use Rattle.tree.specs.Nodes.{maxHeight, Level, Stands}
 use Rattle.tree.proofs.Exact.{level-left, level-right}
 
 module _ (h k i : ℕ) (stands : Stands h k i) where
-  -- a node's number is small
-  pub node-small : i < 2 ^ suc maxHeight
-  node-small = omega (arith, stands .2 .1, pow-mono {i = suc (h - k)} {j = suc maxHeight} (omega arith))
-
   -- the level below
   pub stands-left : 0 < k → Stands h (k - 1) (2 * i)
   stands-left pos =

@@ -5,9 +5,8 @@ use mathlib.Core.List.{List, [], _∷_, _++_}
 use Prim.Native.Nat.{ℕ, _+_, _*_, _≤_}
 use native.Mathlib.Omega.{arith}
 use lib.Dec.{eqb, ltb}
-use lib.ListN.{length, getD, drop}
-use Rattle.std.proofs.shelf.Lists.{length-drop}
-use Rattle.std.proofs.shelf.Tests.{eqb-true, ltb-false}
+use lib.ListN.{length, getD}
+use Rattle.std.proofs.shelf.Tests.{ltb-false}
 use Rattle.std.specs.declared.option.Option.the-variants.{Some, None}
 use Rattle.std.specs.declared.result.Result.the-variants.{Ok}
 use Rattle.fault.specs.declared.Fault.{Fault}
@@ -15,13 +14,9 @@ use Rattle.fault.specs.declared.Fault.the-variants.{TooManyRevoked}
 use Rattle.fault.specs.Lowest.{when, lower, lowest, judged}
 use Rattle.fault.proofs.Lowest.{lowest-append, lowest-none, judged-ok}
 use Rattle.tree.specs.Receivers.{listFaults}
+use Rattle.tree.proofs.Tests.{told}
 use Rattle.wire.specs.Head.{headFaults}
 use Rattle.wire.specs.Revocation.{maxRevoked, namedFaults, countIn, revokedIn, revocationFaults}
-use Rattle.wire.proofs.Bytes.{length-words}
-
-counted : (b : Bool) (n m : ℕ) → Some m ≡ cond b (Some n) None → (b ≡ true) × (m ≡ n)
-counted true n m e = (refl, cc)
-counted false n m e = absurd (let z : _≡_ {A = ℕ} 0 1 = cc in omega arith)
 
 append-nil-left : {A : Type 0} (xs ys : List A) → xs ++ ys ≡ [] → xs ≡ []
 append-nil-left [] ys e = refl
@@ -56,15 +51,10 @@ module _ (s : List ℕ) (h n : ℕ) (head : Ok h ≡ judged (headFaults 1 s) (ge
   height-is = judged-ok (headFaults 1 s) (getD s 1 0) h head .1
 
   pub count-is : n ≡ countIn s
-  count-is = counted (eqb (length s) (6 + 4 * countIn s)) (countIn s) n count .1
-
-  pub length-revoked : length (revokedIn s) ≡ n
-  length-revoked =
-      let e = eqb-true (length s) (6 + 4 * countIn s) (counted (eqb (length s) (6 + 4 * countIn s)) (countIn s) n count .0) in
-      length-words n (drop 6 s) (omega (arith, length-drop 6 s, e, count-is))
+  count-is = told (eqb (length s) (6 + 4 * countIn s)) n (countIn s) count .1
 
   pub faults-are : revocationFaults s ≡ namedFaults h (revokedIn s)
   faults-are =
       let e = judged-ok (headFaults 1 s) (getD s 1 0) h head .0 in
-      let c = counted (eqb (length s) (6 + 4 * countIn s)) (countIn s) n count .0 in
+      let c = told (eqb (length s) (6 + 4 * countIn s)) n (countIn s) count .0 in
       rw (e, c, height-is)

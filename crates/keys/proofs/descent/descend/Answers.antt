@@ -6,7 +6,7 @@ use Rattle.secrecy.specs.Terms.{label}
 use Rattle.secrecy.specs.Worlds.{bytes}
 use Rattle.keys.specs.Drawn.{world}
 use Rattle.keys.specs.Down.{reaches, stepsDown}
-use Rattle.keys.proofs.Steps.{told}
+use Rattle.tree.proofs.Tests.{told}
 use Rattle.keys.proofs.Downs.{labels-down}
 use Rattle.keys.proofs.descent.descend.Needs as need
 
