@@ -1,4 +1,5 @@
 //! Tests of the libraries on examples, with lists made by hand.
+#![tactic(auto)]
 
 #[cfg(test)]
 mod tests {

@@ -1,6 +1,9 @@
 //! What the programs share: how they end, and how they read files. What is printed is run and compared, and not proved.
+#![tactic(auto)]
+
 ghost use Rattle.std.specs.Prelude.{◌≡◌};
 
+use anyhow::anyhow;
 use fault::{Fault, Refusal};
 use std::alloc::{AllocError, AllocFailed};
 use std::{fs, io};
@@ -44,7 +47,7 @@ impl From<Refusal> for Stop {
     fn from(refusal: Refusal) -> Stop {
         match refusal {
             Refusal::Faulty(fault) => Stop::Refused(fault),
-            Refusal::NoRoom => Stop::Failed("there is no room for the answer".into()),
+            Refusal::NoRoom => Stop::Failed(anyhow!("there is no room for the answer")),
         }
     }
 }
@@ -65,18 +68,15 @@ pub fn end(rt: &HostRuntime, outcome: Result<(), Stop>) -> Result<(), Stop>
 }
 
 /// That something cannot be done with a file, as a sentence that names it.
-fn cannot(rt: &HostRuntime, what: &str, path: &str, error: io::Error) -> Stop {
-    match format!(in rt.alloc(); "cannot {what} {path}: {error}") {
-        Ok(sentence) => Stop::Failed(sentence.into()),
-        Err(error) => Stop::from(error),
-    }
+fn cannot(what: &str, path: &str, error: io::Error) -> Stop {
+    Stop::Failed(anyhow!("cannot {what} {path}: {error}"))
 }
 
 /// A file's bytes, or a sentence that names the file.
 pub fn read_file(rt: &HostRuntime, path: &str) -> Result<Vec<u8>, Stop> {
     match fs::read(rt, path) {
         Ok(bytes) => Ok(bytes),
-        Err(error) => Err(cannot(rt, "read", path, error)),
+        Err(error) => Err(cannot("read", path, error)),
     }
 }
 
@@ -85,10 +85,10 @@ pub fn write_file(rt: &HostRuntime, path: &str, bytes: &[u8]) -> Result<(), Stop
     let unfinished = format!(in rt.alloc(); "{path}.unfinished")?;
     if let Err(error) = fs::write(rt, unfinished.as_str(), bytes) {
         let _ = fs::remove_file(rt, unfinished.as_str());
-        return Err(cannot(rt, "write", path, error));
+        return Err(cannot("write", path, error));
     }
     match fs::rename(rt, unfinished.as_str(), path) {
         Ok(_) => Ok(()),
-        Err(error) => Err(cannot(rt, "write", path, error)),
+        Err(error) => Err(cannot("write", path, error)),
     }
 }

@@ -38,7 +38,7 @@ impl Pieces {
                 file,
                 buffer: [0; PIECE],
             }),
-            Err(error) => Err(cannot(rt, "read", path, error)),
+            Err(error) => Err(cannot("read", path, error)),
         }
     }
 

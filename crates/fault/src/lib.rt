@@ -1,5 +1,7 @@
 //! Why a thing is refused: the causes, the number of each, and the lowest of several.
 //! Assumes nothing.
+#![tactic(auto)]
+
 ghost use Rattle.std.specs.Prelude.{◌≡◌, Some, nat_le};
 ghost use Rattle.fault.specs.Numbers.{number_of};
 ghost use Rattle.fault.specs.Lowest.{when, lower, lowest, LowestLeast};

@@ -1,4 +1,5 @@
 //! Which receivers are asked for: by number, or all from one to another.
+use anyhow::anyhow;
 use cli::Stop;
 use std::alloc::{AllocError, Global};
 use tree::nodes::leaf_of;
@@ -33,10 +34,7 @@ pub fn read_range(rt: &HostRuntime, text: &str) -> Result<Range, Stop> {
     match parse_range(text) {
         Some(range) => Ok(range),
         None => {
-            let sentence = format!(in rt.alloc();
-                "{text} is neither a receiver nor a range A-B of receivers"
-            )?;
-            Err(Stop::Failed(sentence.into()))
+            Err(Stop::Failed(anyhow!("{text} is neither a receiver nor a range A-B of receivers")))
         }
     }
 }

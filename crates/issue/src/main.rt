@@ -1,8 +1,10 @@
 //! `issue STARTS DIR RECEIVER...` writes the label files of receivers.
+#![tactic(auto)]
 mod asked;
 mod files;
 
 use asked::{Range, read_range, receivers_in};
+use anyhow::anyhow;
 use cli::Stop;
 use cli::pieces::Pieces;
 use files::write_files;
@@ -46,20 +48,20 @@ fn issue(rt: &HostRuntime, order: &Order) -> Result<(), Stop> {
 fn read_order(rt: &HostRuntime) -> Result<Option<Order>, Stop> {
     let mut args = env::args(rt)?.skip(1);
     let Some(starts) = args.next() else {
-        return Err(Stop::Failed(USAGE.into()));
+        return Err(Stop::Failed(anyhow!(USAGE)));
     };
     if starts.as_str() == "--help" {
         return Ok(None);
     }
     let Some(dir) = args.next() else {
-        return Err(Stop::Failed(USAGE.into()));
+        return Err(Stop::Failed(anyhow!(USAGE)));
     };
     let mut ranges = Vec::new(rt.alloc());
     for text in args {
         ranges.push(read_range(rt, text.as_str())?)?;
     }
     if ranges.is_empty() {
-        return Err(Stop::Failed(USAGE.into()));
+        return Err(Stop::Failed(anyhow!(USAGE)));
     }
     ranges.sort();
     Ok(Some(Order {

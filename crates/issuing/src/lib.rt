@@ -1,4 +1,5 @@
 //! Label files: what each receiver is given to hold.
+#![tactic(auto)]
 mod entries;
 mod file;
 pub mod issue;

@@ -1,4 +1,6 @@
 //! `parts LIST` prints the parts that cover all receivers but those that a revocation list names.
+#![tactic(auto)]
+use anyhow::anyhow;
 use cli::Stop;
 use std::env;
 use tree::cover::cover;
@@ -27,7 +29,7 @@ fn print_parts(rt: &HostRuntime, parts: &[Part]) -> Result<(), Stop> {
 fn run(rt: &HostRuntime) -> Result<(), Stop> {
     let mut args = env::args(rt)?.skip(1);
     let (Some(path), None) = (args.next(), args.next()) else {
-        return Err(Stop::Failed("usage: parts LIST".into()));
+        return Err(Stop::Failed(anyhow!("usage: parts LIST")));
     };
     if path.as_str() == "--help" {
         return Ok(rt.println(HELP)?);

@@ -13,7 +13,7 @@ use Rattle.secrecy.proofs.Lists.{in_joined, joined_in}
 use Rattle.secrecy.proofs.Made.{gives}
 use Rattle.secrecy.proofs.Labels.{label_of_is}
 use Rattle.secrecy.proofs.Air.{sealed, sealed_in}
-use Rattle.secrecy.proofs.Hidden.{known, known_decides, shown, shown_decides, sum, hidden, hidden_key, gets_not_hidden}
+use Rattle.secrecy.proofs.Hiding.{known, known_decides, shown, shown_decides, sum, hidden, hidden_key, gets_not_hidden}
 
 -- more in hand gives no less
 pub gets_more : {have have' : List Term} {t : Term} → Within have have' → Gets have t → Gets have' t

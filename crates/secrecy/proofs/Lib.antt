@@ -6,7 +6,7 @@ pub mod Way
 pub mod Held
 pub mod Air
 mod Sum
-pub mod Hidden
+pub mod Hiding
 pub mod Exact
 pub mod Shown
 pub mod Cases

@@ -5,7 +5,7 @@ use Rattle.secrecy.specs.Held.{held_by}
 use Rattle.secrecy.specs.Air.{signals}
 use Rattle.secrecy.specs.Blind.{ShowsBytes, OnlyLeft}
 use Rattle.secrecy.proofs.Held.{held_labels}
-use Rattle.secrecy.proofs.Hidden.{shown, shown_decides}
+use Rattle.secrecy.proofs.Hiding.{shown, shown_decides}
 use Rattle.secrecy.proofs.Shown.{opened_left, left_opened}
 use Rattle.secrecy.proofs.Room.{unfound}
 use Rattle.secrecy.proofs.Found.{found}

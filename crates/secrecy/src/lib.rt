@@ -1,4 +1,6 @@
 //! What opened receivers can work out together, over everything that is ever sent: theorems, and no code.
+#![tactic(auto)]
+
 ghost use Rattle.secrecy.specs.Blind.{Blind, Covered, Found, HeaderBytes, OnlyLeft, ShowsBytes, SomeWorld, Unfound};
 ghost use Rattle.secrecy.specs.Cases.{KeysOfZeroAndFive, LabelsOfTwo, NumberTwiceHappens, RunStands, StepsOfTwo};
 ghost use Rattle.secrecy.specs.Promise.{HeldCount, HeldLabels, KeyExact, KeyFromLabels, MoreAir, MoreReceivers};

@@ -1,4 +1,5 @@
 //! `send LIST N STARTS DRAWN OUT` writes a sending.
+#![tactic(auto)]
 mod order;
 
 use cli::Stop;

@@ -1,4 +1,5 @@
 //! What is to be sent, by the arguments and the files that they name. The lowest fault of all of them is the answer.
+use anyhow::anyhow;
 use cli::Stop;
 use cli::pieces::Pieces;
 use fault::{Fault, lower_of};
@@ -60,7 +61,7 @@ fn read_list(rt: &HostRuntime, path: &str) -> Result<Result<List, Fault>, Stop> 
 fn read_number(text: &str) -> Result<u32, Stop> {
     match text.parse::<u64>() {
         Ok(number) => Ok(u32::try_from(number).unwrap_or(u32::MAX)),
-        Err(_) => Err(Stop::Failed("N is not a number".into())),
+        Err(_) => Err(Stop::Failed(anyhow!("N is not a number"))),
     }
 }
 
@@ -110,7 +111,7 @@ fn read_starts(
 fn read_arguments(rt: &HostRuntime) -> Result<Option<Arguments>, Stop> {
     let mut args = env::args(rt)?.skip(1);
     let Some(list) = args.next() else {
-        return Err(Stop::Failed(USAGE.into()));
+        return Err(Stop::Failed(anyhow!(USAGE)));
     };
     if list.as_str() == "--help" {
         return Ok(None);
@@ -122,7 +123,7 @@ fn read_arguments(rt: &HostRuntime) -> Result<Option<Arguments>, Stop> {
         args.next(),
         args.next(),
     ) else {
-        return Err(Stop::Failed(USAGE.into()));
+        return Err(Stop::Failed(anyhow!(USAGE)));
     };
     Ok(Some(Arguments {
         list,

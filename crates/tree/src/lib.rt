@@ -1,4 +1,6 @@
 //! The tree of receivers, and the parts that cover all of them but the revoked.
+#![tactic(auto)]
+
 ghost use Rattle.tree.specs.Promise.{CoverCovers, Worked};
 
 pub mod cover;

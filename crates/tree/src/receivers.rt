@@ -78,7 +78,7 @@ impl Found {
 
 /// The lowest fault of a list of receivers for a tree of this height.
 pub fn fault_in<L: ReceiverList>(height: u8, receivers: &L) -> Option<Fault>
-    ensures { result ≡ lowest (list_faults height (list receivers.now)) }
+    ensures { result ≡ lowest (list_faults height (L.list receivers.now)) }
 {
     if height == 0 || height > MAX_HEIGHT {
         return Some(Fault::OutOfRange);

@@ -1,4 +1,6 @@
 //! The file formats, read and written.
+#![tactic(auto)]
+
 pub mod head;
 pub mod labels;
 mod nodes;

@@ -38,7 +38,7 @@ fn is_too_many(count: usize) -> bool
 
 /// The lowest fault of receivers that a list names.
 fn fault_in_named<L: ReceiverList>(height: u8, receivers: &L) -> Option<Fault>
-    ensures { result ≡ lowest (named_faults height (list receivers.now)) }
+    ensures { result ≡ lowest (named_faults height (L.list receivers.now)) }
 {
     lower_of(
         fault_in(height, receivers),

@@ -19,7 +19,7 @@ word_more bytes four s i room all h before e =
 pub loop-i-preserved : goal.loop-i-preserved
 loop-i-preserved c = (
   search (rules, places),
-  word_more _ _ _ _ c.loop-i.invariant.0 (omega arith) (omega arith) c.loop-i.invariant.1 (c.copy-from-slice.ensures.after ∙ c.to-le-bytes.ensures),
+  word_more _ _ _ _ c.loop-i.invariant.0 (omega arith) (omega arith) c.loop-i.invariant.1 (c.copy_from_slice.ensures.after ∙ c.to_le_bytes.ensures),
 )
 
 pub returns : goal.returns

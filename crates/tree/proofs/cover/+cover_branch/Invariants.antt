@@ -1,5 +1,5 @@
 -- It ends since the levels below its node fall.
 use Rattle.tree.proofs.cover.+cover_branch.Given as goal
 
-abbrev pub decreases-cover-branch : goal.decreases-cover-branch
-decreases-cover-branch l = l.at.levels
+abbrev pub decreases-cover_branch : goal.decreases-cover_branch
+decreases-cover_branch l = l.at.levels

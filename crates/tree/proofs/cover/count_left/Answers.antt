@@ -9,6 +9,6 @@ returns c =
     let right = c.right.ensures in
     let first = same_first right.height right.levels right.node in
     record {
-      within = c.count-before.ensures.within;
-      cut = subst (λ (m : ℕ). Cut c.args.receivers.now c.count-before.result m) (c.first-receiver.ensures ∙ first) c.count-before.ensures.cut;
+      within = c.count_before.ensures.within;
+      cut = subst (λ (m : ℕ). Cut c.args.receivers.now c.count_before.result m) (c.first_receiver.ensures ∙ first) c.count_before.ensures.cut;
     }

@@ -3,10 +3,10 @@ use Rattle.tree.proofs.Branches.{same_work, same_rise, same_low}
 use Rattle.tree.proofs.Whole.{room, some_room, beneath_top, top_clean, top_named, answered, within, covered}
 use Rattle.tree.proofs.cover.cover.Goals as goal
 
-pub cover-branch-requires : goal.cover-branch-requires
-cover-branch-requires c =
-    let none = c.in-default.ensures in
-    let enough = c.if-not-has-room.ensures in
+pub cover_branch-requires : goal.cover_branch-requires
+cover_branch-requires c =
+    let none = c.in_default.ensures in
+    let enough = c.if-not-has_room.ensures in
     let w = c.whole.ensures in
     let b = beneath_top c.args.height c.args.revoked.now c.args.out.now none enough in
     record {
@@ -20,8 +20,8 @@ returns-in-Clean c =
     let h = c.args.height in
     let rs = c.args.revoked.now in
     let memory = c.args.out.now in
-    let none = c.in-default.ensures in
-    let enough = c.if-not-has-room.ensures in
+    let none = c.in_default.ensures in
+    let enough = c.if-not-has_room.ensures in
     let w = c.whole.ensures in
     let same = same_work w.height w.levels w.node rs in
     let top = rw same at c.in-Clean.ensures in
@@ -38,8 +38,8 @@ returns-in-Named c =
     let h = c.args.height in
     let rs = c.args.revoked.now in
     let memory = c.args.out.now in
-    let none = c.in-default.ensures in
-    let enough = c.if-not-has-room.ensures in
+    let none = c.in_default.ensures in
+    let enough = c.if-not-has_room.ensures in
     let w = c.whole.ensures in
     let same = same_work w.height w.levels w.node rs in
     let top = rw same at c.in-Named.ensures in

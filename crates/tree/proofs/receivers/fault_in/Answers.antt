@@ -10,7 +10,7 @@ loop-i-preserved g c =
     let inv = c.loop-i.invariant in
     let within : i < length all = omega (arith, c.loop-i-test.true, c.count-i-end.ensures) in
     let found = c.next-found.ensures in
-    rw (found.least, found.outside, found.unordered, c.at.ensures, c.size-of-tree-end.ensures)
+    rw (found.least, found.outside, found.unordered, c.at.ensures, c.size_of_tree-end.ensures)
     (below_more all i c.loop-i.found.outside _ within ∙ inv.0, rising_more all i c.loop-i.found.unordered c.loop-i.found.least within ∙ inv.1)
 
 pub returns : goal.returns

@@ -9,7 +9,7 @@ loop-rest-preserved c =
     let s = c.loop-rest.rest.now in
     let inv = c.loop-rest.invariant in
     let m : length (drop 40 s) % 40 ≡ 0 = omega (arith, length-drop 40 s, inv.0) in
-    rw (take_rest s 40, c.is-in-tree.ensures, c.is-in-tree-in-loop-rest.ensures, c.first-place-place.ensures)
+    rw (take_rest s 40, c.is_in_tree.ensures, c.is_in_tree-in-loop-rest.ensures, c.first_place-place.ensures)
     (m, all_more c.args.height s c.loop-rest.all (omega (arith, inv.0)) ∙ inv.1)
 
 pub returns : goal.returns

@@ -11,36 +11,36 @@ use Rattle.wire.proofs.Labelled.{height_is, outside, astray, faultless}
 use Rattle.wire.proofs.labels.read_labels.Goals as goal
 use Rattle.wire.proofs.labels.read_labels.Goals.{In-Some}
 
-size : (c : goal.In-Some) → length c.args.bytes.now ≡ labels_size c.in-ok-height.height
-size c = c.if-bytes-size-of-labels.false ∙ c.size-of-labels.ensures
+size : (c : goal.In-Some) → length c.args.bytes.now ≡ labels_size c.in_ok-height.height
+size c = c.if-bytes-size_of_labels.false ∙ c.size_of_labels.ensures
 
-there : (c : goal.In-Some) → true ≡ ltb (word_at c.args.bytes.now 2) (2 ^ c.in-ok-height.height)
+there : (c : goal.In-Some) → true ≡ ltb (word_at c.args.bytes.now 2) (2 ^ c.in_ok-height.height)
 there c =
-    let h = c.in-ok-height.height in
-    let t = rw c.word-at-receiver.ensures at c.in-Some.ensures.there in
+    let h = c.in_ok-height.height in
+    let t = rw c.word_at-receiver.ensures at c.in-Some.ensures.there in
     sym (and_parts (is_height h) (ltb (word_at c.args.bytes.now 2) (2 ^ h)) (sym t)).1
 
-pub returns-then-not-all-in-tree : goal.returns-then-not-all-in-tree
-returns-then-not-all-in-tree c =
+pub returns-then-not-all_in_tree : goal.returns-then-not-all_in_tree
+returns-then-not-all_in_tree c =
     let s = c.args.bytes.now in
-    let d = (goal.at.returns-then-not-all-in-tree c).In-Some in
-    let test = rw (take_rest s 38) at c.if-not-all-in-tree.ensures in
-    sym (ap (λ (o : Option Fault). unless o (labels_in s)) (outside s _ c.in-ok-height.ensures (size d) (there d) test))
+    let d = (goal.at.returns-then-not-all_in_tree c).In-Some in
+    let test = rw (take_rest s 38) at c.if-not-all_in_tree.ensures in
+    sym (ap (λ (o : Option Fault). unless o (labels_in s)) (outside s _ c.in_ok-height.ensures (size d) (there d) test))
 
-pub returns-then-not-is-along : goal.returns-then-not-is-along
-returns-then-not-is-along c =
+pub returns-then-not-is_along : goal.returns-then-not-is_along
+returns-then-not-is_along c =
     let s = c.args.bytes.now in
-    let d = (goal.at.returns-then-not-is-along c).In-Some in
-    let test = rw (take_rest s 38) at c.if-not-all-in-tree.ensures in
-    let along = rw (take_rest s 38, c.in-Some.ensures.whole, c.word-at-receiver.ensures) at c.if-not-is-along.ensures in
-    sym (ap (λ (o : Option Fault). unless o (labels_in s)) (astray s _ c.in-ok-height.ensures (size d) (there d) test along))
+    let d = (goal.at.returns-then-not-is_along c).In-Some in
+    let test = rw (take_rest s 38) at c.if-not-all_in_tree.ensures in
+    let along = rw (take_rest s 38, c.in-Some.ensures.whole, c.word_at-receiver.ensures) at c.if-not-is_along.ensures in
+    sym (ap (λ (o : Option Fault). unless o (labels_in s)) (astray s _ c.in_ok-height.ensures (size d) (there d) test along))
 
 pub returns : goal.returns
 returns c =
     let s = c.args.bytes.now in
     let d = (goal.at.returns c).In-Some in
-    let head = c.in-ok-height.ensures in
-    let test = rw (take_rest s 38) at c.if-not-all-in-tree.ensures in
-    let along = rw (take_rest s 38, c.in-Some.ensures.whole, c.word-at-receiver.ensures) at c.if-not-is-along.ensures in
+    let head = c.in_ok-height.ensures in
+    let test = rw (take_rest s 38) at c.if-not-all_in_tree.ensures in
+    let along = rw (take_rest s 38, c.in-Some.ensures.whole, c.word_at-receiver.ensures) at c.if-not-is_along.ensures in
     let none = faultless s _ head (size d) (there d) test along in
-    rw (none, take_rest s 38, c.word-at-receiver.ensures, c.copy-from-slice.ensures.after, height_is s _ head (size d))
+    rw (none, take_rest s 38, c.word_at-receiver.ensures, c.copy_from_slice.ensures.after, height_is s _ head (size d))

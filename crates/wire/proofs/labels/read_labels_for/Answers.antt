@@ -10,11 +10,11 @@ pub returns-in-Err : goal.returns-in-Err
 returns-in-Err c =
     let s = c.args.bytes.now in
     let other = when (not (eqb (get_or s 1 0) c.args.height)) OutOfRange in
-    judged_first (labels_faults s) other (labels_in s) c.in-Err.fault c.lower-than.result c.in-Err.ensures
-    (rw (c.when-other.ensures, c.height-in.ensures) at c.lower-than.ensures)
+    judged_first (labels_faults s) other (labels_in s) c.in-Err.fault c.lower_than.result c.in-Err.ensures
+    (rw (c.when-other.ensures, c.height_in.ensures) at c.lower_than.ensures)
 
 pub returns-in-Some : goal.returns-in-Some
 returns-in-Some c =
     let s = c.args.bytes.now in
     let other = when (not (eqb (get_or s 1 0) c.args.height)) OutOfRange in
-    judged_second (labels_faults s) other (labels_in s) _ c.in-Some.fault c.in-Ok.ensures (rw c.height-in.ensures at c.in-Some.ensures)
+    judged_second (labels_faults s) other (labels_in s) _ c.in-Some.fault c.in-Ok.ensures (rw c.height_in.ensures at c.in-Some.ensures)

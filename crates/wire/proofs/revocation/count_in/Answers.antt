@@ -13,16 +13,16 @@ at-count-requires c =
     let s = c.args.bytes.now in
     rw (take_rest s 2) (omega (arith, length_words _ (drop 2 s) refl, length-drop 2 s))
 
-pub returns-then-bytes-size-of-list : goal.returns-then-bytes-size-of-list
-returns-then-bytes-size-of-list c =
+pub returns-then-bytes-size_of_list : goal.returns-then-bytes-size_of_list
+returns-then-bytes-size_of_list c =
     let s = c.args.bytes.now in
     let e = (rw (take_rest s 2) at c.at-count.ensures) ∙ first_word s c.if-bytes-lt6.false in
-    let f = eq-eqb (length s) (6 + 4 * word_at s 2) (omega (arith, e, c.size-of-list.ensures, c.if-bytes-size-of-list.true)) in
+    let f = eq-eqb (length s) (6 + 4 * word_at s 2) (omega (arith, e, c.size_of_list.ensures, c.if-bytes-size_of_list.true)) in
     rw (f, e)
 
-pub returns-else-bytes-size-of-list : goal.returns-else-bytes-size-of-list
-returns-else-bytes-size-of-list c =
+pub returns-else-bytes-size_of_list : goal.returns-else-bytes-size_of_list
+returns-else-bytes-size_of_list c =
     let s = c.args.bytes.now in
     let e = (rw (take_rest s 2) at c.at-count.ensures) ∙ first_word s c.if-bytes-lt6.false in
-    let f = ne_eqb (length s) (6 + 4 * word_at s 2) (λ q. c.if-bytes-size-of-list.false (omega (arith, e, c.size-of-list.ensures, q))) in
+    let f = ne_eqb (length s) (6 + 4 * word_at s 2) (λ q. c.if-bytes-size_of_list.false (omega (arith, e, c.size_of_list.ensures, q))) in
     rw f

@@ -16,8 +16,8 @@ returns-in-Some c =
 
 pub returns-then-out-size : goal.returns-then-out-size
 returns-then-out-size c =
-    let none = c.in-default.ensures in
-    let size = sym (c.size-of-list-size.ensures ∙ sym (length_bytes c.args.height c.args.receivers.now)) in
+    let none = c.in_default.ensures in
+    let size = sym (c.size_of_list-size.ensures ∙ sym (length_bytes c.args.height c.args.receivers.now)) in
     let short = lt-leb (length (revocation_bytes c.args.height c.args.receivers.now)) (length c.args.out.now) (omega (arith, size, c.if-out-size.true)) in
     record { answer = rw (← none, short); memory = refl; read_back = tt }
 
@@ -26,12 +26,12 @@ returns c =
     let h = c.args.height in
     let rs = c.args.receivers.now in
     let memory = c.args.out.now in
-    let none = c.in-default.ensures in
-    let size = sym (c.size-of-list-size.ensures ∙ sym (length_bytes h rs)) in
-    let n = c.size-of-list-size.result in
+    let none = c.in_default.ensures in
+    let size = sym (c.size_of_list-size.ensures ∙ sym (length_bytes h rs)) in
+    let n = c.size_of_list-size.result in
     let enough = le-leb (length (revocation_bytes h rs)) (length memory) (omega (arith, size, c.if-out-size.false)) in
-    let two = over_on (1 ∷ h ∷ []) (bytes4 (length rs)) memory c.write-head.new.out c.write-word.new.out 2 refl c.write-head.ensures c.write-word.ensures in
-    let all = over_on (1 ∷ h ∷ bytes4 (length rs)) (flat_map bytes4 rs) memory _ c.write-words.new.out 6 refl two c.write-words.ensures in
+    let two = over_on (1 ∷ h ∷ []) (bytes4 (length rs)) memory c.write_head.new.out c.write_word.new.out 2 refl c.write_head.ensures c.write_word.ensures in
+    let all = over_on (1 ∷ h ∷ bytes4 (length rs)) (flat_map bytes4 rs) memory _ c.write_words.new.out 6 refl two c.write_words.ensures in
     let front = ap (take n) all ∙ take_at (revocation_bytes h rs) (drop (length (revocation_bytes h rs)) memory) n size in
     record {
       answer = rw (← none, enough, size);

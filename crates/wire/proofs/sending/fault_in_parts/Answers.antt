@@ -13,7 +13,7 @@ loop-rest-preserved c =
     let (whole, inside, descend) = c.loop-rest.invariant in
     let m : length (drop 56 s) % 56 ≡ 0 = omega (arith, length-drop 56 s, whole) in
     let l : 56 ≤ length s = omega (arith, whole) in
-    rw (take_rest s 56, c.is-inside-inside.ensures, c.is-descending-descending.ensures, c.first-place-part.ensures)
+    rw (take_rest s 56, c.is_inside-inside.ensures, c.is_descending-descending.ensures, c.first_place-part.ensures)
     (m, inside_more h s c.loop-rest.inside l ∙ inside, descend_more h s c.loop-rest.descending l ∙ descend)
 
 pub returns : goal.returns
@@ -23,5 +23,5 @@ returns c =
     let (whole, inside, descend) = c.loop-rest.invariant in
     let in_all = sym (inside_none h s c.loop-rest.inside (omega arith)) ∙ inside in
     let down-all = sym (descend_none h s c.loop-rest.descending (omega arith)) ∙ descend in
-    rw (c.lower-of.ensures.lower, c.when.ensures, c.when-2.ensures, in_all, down-all)
+    rw (c.lower_of.ensures.lower, c.when.ensures, c.when-2.ensures, in_all, down-all)
     (lowest_parts (all_inside h (parts_in c.args.headers.now)) (all_descend h (parts_in c.args.headers.now)))

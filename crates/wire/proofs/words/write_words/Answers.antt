@@ -13,7 +13,7 @@ loop-i-preserved c =
     let ns = c.args.numbers.now in
     let i = c.loop-i.i in
     let size : 4 * i ≡ length (flat_map bytes4 (take i ns)) = omega (arith, length_joined (take i ns), length-take-le i ns (omega (arith, c.loop-i-test.true))) in
-    over_on (flat_map bytes4 (take i ns)) (bytes4 (get_or ns i 0)) c.args.out.now c.loop-i.out c.write-word.new.out (4 * i) size c.loop-i.invariant c.write-word.ensures
+    over_on (flat_map bytes4 (take i ns)) (bytes4 (get_or ns i 0)) c.args.out.now c.loop-i.out c.write_word.new.out (4 * i) size c.loop-i.invariant c.write_word.ensures
     ∙ ap (λ (bs : List ℕ). over bs c.args.out.now) (joined_take ns i (omega (arith, c.loop-i-test.true)))
 
 pub returns : goal.returns

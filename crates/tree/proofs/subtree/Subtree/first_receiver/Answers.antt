@@ -2,8 +2,8 @@
 use Rattle.tree.proofs.Stand.{leaves_from, leaves_fit}
 use Rattle.tree.proofs.subtree.Subtree.first_receiver.Goals as goal
 
-pub overflow-sub-result : goal.overflow-sub-result
-overflow-sub-result c =
+pub overflow_sub-result : goal.overflow_sub-result
+overflow_sub-result c =
     let fit = leaves_fit c.args.self.height c.args.self.levels c.args.self.node c.args.self.stands in
     rw (fit.0, fit.1) (leaves_from c.args.self.height c.args.self.levels c.args.self.node c.args.self.stands)
 

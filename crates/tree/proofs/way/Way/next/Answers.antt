@@ -8,5 +8,5 @@ pub returns : goal.returns
 returns c =
     let w = c.in-Some.at in
     let climbed = c.in-Some.ensures in
-    rw c.sibling-of.ensures
+    rw c.sibling_of.ensures
     (climbed.1 ∙ next_hanging w.hanging w.first w.node (above w.above (suc w.steps) (w.first / 2) w.leaf) climbed.0)

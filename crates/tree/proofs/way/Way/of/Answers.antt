@@ -11,5 +11,5 @@ unfolding hanging
 returns c =
     let h = c.args.height in
     let u = c.args.receiver in
-    let t = told (is_height h && ltb u (2 ^ h)) c.in-ok-leaf.leaf (leaf h u) c.in-ok-leaf.ensures in
+    let t = told (is_height h && ltb u (2 ^ h)) c.in_ok-leaf.leaf (leaf h u) c.in_ok-leaf.ensures in
     record { there = sym t.0; whole = rw t.1 }

@@ -7,11 +7,11 @@ use Rattle.wire.proofs.words.WordsReceiverList.at.Goals as goal
 within : (s : List ℕ) (i : ℕ) → i < length (words s) → 4 * i + 4 ≤ length s
 within s i l = omega (arith, length_words _ s refl)
 
-pub overflow-mul-index : goal.overflow-mul-index
-overflow-mul-index c = let l = within c.args.self.now.bytes.now c.args.index c.requires in search (rules, l)
+pub overflow_mul-index : goal.overflow_mul-index
+overflow_mul-index c = let l = within c.args.self.now.bytes.now c.args.index c.requires in search (rules, l)
 
-pub word-at-requires : goal.word-at-requires
-word-at-requires c = within c.args.self.now.bytes.now c.args.index c.requires
+pub word_at-requires : goal.word_at-requires
+word_at-requires c = within c.args.self.now.bytes.now c.args.index c.requires
 
 pub returns : goal.returns
-returns c = c.word-at.ensures ∙ sym (get_d_words c.args.index c.args.self.now.bytes.now (within c.args.self.now.bytes.now c.args.index c.requires))
+returns c = c.word_at.ensures ∙ sym (get_d_words c.args.index c.args.self.now.bytes.now (within c.args.self.now.bytes.now c.args.index c.requires))
