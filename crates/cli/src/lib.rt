@@ -1,11 +1,13 @@
 //! What the programs share: how they end, and how they read files. What is printed is run and compared, and not proved.
 #![tactic(auto)]
 
-ghost use Rattle.std.specs.Prelude.{◌≡◌};
+ghost use Rattle.std.specs.Prelude.{◌≡◌, if◌then◌else◌, is_ok};
+ghost use Rattle.std.specs.Process.{exit_status};
 
 use anyhow::anyhow;
 use fault::{Fault, Refusal};
 use std::alloc::{AllocError, AllocFailed};
+use std::process::ExitCode;
 use std::{fs, io};
 
 pub mod pieces;
@@ -65,6 +67,16 @@ pub fn end(rt: &HostRuntime, outcome: Result<(), Stop>) -> Result<(), Stop>
         let _ = eprintln!(rt; "{error}");
     }
     outcome
+}
+
+/// The same, with the status that the process ends with.
+pub fn exit_code(rt: &HostRuntime, outcome: Result<(), Stop>) -> ExitCode
+    ensures { exit_status result ≡ (if is_ok outcome then 0 else 1) }
+{
+    match end(rt, outcome) {
+        Ok(()) => ExitCode::SUCCESS,
+        Err(_) => ExitCode::FAILURE,
+    }
 }
 
 /// That something cannot be done with a file, as a sentence that names it.

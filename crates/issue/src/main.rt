@@ -11,6 +11,7 @@ use files::write_files;
 use starts::head::read_height;
 use starts::reader::StartsReader;
 use std::env;
+use std::process::ExitCode;
 
 const HELP: &str = "issue STARTS DIR RECEIVER...
 
@@ -78,6 +79,6 @@ fn run(rt: &HostRuntime) -> Result<(), Stop> {
     }
 }
 
-fn main(rt: HostRuntime) -> Result<(), Stop> {
-    cli::end(&rt, run(&rt))
+fn main(rt: HostRuntime) -> ExitCode {
+    cli::exit_code(&rt, run(&rt))
 }

@@ -1,8 +1,10 @@
 //! `parts LIST` prints the parts that cover all receivers but those that a revocation list names.
 #![tactic(auto)]
+
 use anyhow::anyhow;
 use cli::Stop;
 use std::env;
+use std::process::ExitCode;
 use tree::cover::cover;
 use tree::parts::Part;
 use wire::revocation::{MAX_REVOKED, read_revocation};
@@ -42,6 +44,6 @@ fn run(rt: &HostRuntime) -> Result<(), Stop> {
     print_parts(rt, &parts[0..count])
 }
 
-fn main(rt: HostRuntime) -> Result<(), Stop> {
-    cli::end(&rt, run(&rt))
+fn main(rt: HostRuntime) -> ExitCode {
+    cli::exit_code(&rt, run(&rt))
 }

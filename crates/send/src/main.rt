@@ -6,6 +6,7 @@ use cli::Stop;
 use keys::cipher::ChaCha20;
 use order::{Order, read_order};
 use sending::send::write_sending;
+use std::process::ExitCode;
 use tree::parts::Part;
 use wire::revocation::MAX_REVOKED;
 use wire::sending::size_of_sending;
@@ -41,6 +42,6 @@ fn run(rt: &HostRuntime) -> Result<(), Stop> {
     }
 }
 
-fn main(rt: HostRuntime) -> Result<(), Stop> {
-    cli::end(&rt, run(&rt))
+fn main(rt: HostRuntime) -> ExitCode {
+    cli::exit_code(&rt, run(&rt))
 }

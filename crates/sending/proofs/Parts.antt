@@ -1,7 +1,7 @@
 -- Headers can be made for the parts of a cover, with the starts that are kept for its revoked receivers. Assumes nothing.
 use Rattle.std.proofs.Common.{◌≡◌, ℕ, zero, suc, ◌+◌, ◌-◌, ◌^◌, ◌<◌, ◌≤◌, true, not, ◌&&◌, T, eqb, ltb, ◌⊎◌, List, [], ◌∷◌, length, get_or, sym, refl, ap, ◌∙◌, inl, inr, ⊎_elim, pow-suc, arith, pow_pos}
 use mathlib.Core.List.{Memᴰ}
-use Rattle.std.proofs.lemmas.Bool.{and_parts, or_cases, or_left, or_right, eqb-true, eqb-false, eq-eqb, ltb-true, not_true}
+use Rattle.std.proofs.lemmas.Bool.{and_parts, or_cases, or_left, or_right, eqb-true, eqb-false, eq-eqb, ltb-true, not-true}
 use Rattle.tree.specs.declared.parts.Part.{Part}
 use Rattle.tree.specs.Nodes.{leaf, below, in_tree}
 use Rattle.tree.specs.Receivers.{is_in, all_below}
@@ -32,7 +32,7 @@ module _ (h : ℕ) (p : Part) where
       let i = and_parts (ltb 0 p.first) (ltb p.first (2 ^ suc h)) b.0 in
       let j = and_parts (ltb 0 p.second) (ltb p.second (2 ^ suc h)) b.1 in
       let d = and_parts (below h p.first p.second) (not (eqb p.first p.second)) a.1 in
-      inr (ltb-true 0 p.first i.0, ltb-true p.first (2 ^ suc h) i.1, ltb-true p.second (2 ^ suc h) j.1, d.0, eqb-false p.first p.second (not_true (eqb p.first p.second) d.1)))
+      inr (ltb-true 0 p.first i.0, ltb-true p.first (2 ^ suc h) i.1, ltb-true p.second (2 ^ suc h) j.1, d.0, eqb-false p.first p.second (not-true (eqb p.first p.second) d.1)))
       (or_cases (is_all p) (in_tree h p.first && in_tree h p.second && descends h p) (T_true (proper h p) t))
 
   -- strictly above what is at or above a revoked receiver

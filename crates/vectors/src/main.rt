@@ -12,6 +12,7 @@ use keys::cipher::ChaCha20;
 use sendings::compare_sendings;
 use starts::reader::StartsReader;
 use starts::table::Starts;
+use std::process::ExitCode;
 use wire::labels::{read_labels_for, size_of_labels};
 
 pub const HEIGHT: u8 = 3;
@@ -105,6 +106,6 @@ fn run(rt: &HostRuntime) -> Result<(), Stop> {
     show_refusals(rt, &file)
 }
 
-fn main(rt: HostRuntime) -> Result<(), Stop> {
-    cli::end(&rt, run(&rt))
+fn main(rt: HostRuntime) -> ExitCode {
+    cli::exit_code(&rt, run(&rt))
 }

@@ -20,12 +20,12 @@ loop-left-preserved g c d tree h high e =
     let a = rw more at (c.loop-left.invariant d tree h high e) in
     let above = label tree h (x / 2 ^ c.args.steps) (x / 2 ^ suc m) in
     let first = x / 2 ^ c.args.steps in
-    let entry : c.copy-from-slice.new.self ≡ entry_bytes (part first (sibling (x / 2 ^ m))) c.fork.result.1 =
-    c.copy-from-slice.ensures.after ∙ c.entry-bytes.ensures ∙ ap (λ (j : ℕ). entry_bytes (part first j) c.fork.result.1) c.sibling-of.ensures in
+    let entry : c.copy_from_slice.new.self ≡ entry_bytes (part first (sibling (x / 2 ^ m))) c.fork.result.1 =
+    c.copy_from_slice.ensures.after ∙ c.entry_bytes.ensures ∙ ap (λ (j : ℕ). entry_bytes (part first j) c.fork.result.1) c.sibling_of.ensures in
     let far : 2 ^ c.args.steps ≤ x = omega arith in
     let room : 40 * c.args.steps ≤ length c.args.out.now = omega arith in
     let next : m < c.args.steps = omega arith in
-    let full : length c.fork.result.1 ≡ 32 = omega (arith, ap length entry, c.copy-from-slice.ensures.len) in
+    let full : length c.fork.result.1 ≡ 32 = omega (arith, ap length entry, c.copy_from_slice.ensures.len) in
     rw entry
     (ahead_more w tree h c.args.steps x c.args.out.now high far room m _ _ _ _ next a full
     (c.fork.ensures.own d above a.at) (c.fork.ensures.beside d above a.at))

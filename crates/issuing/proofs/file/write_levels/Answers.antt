@@ -9,21 +9,21 @@ pub loop-level-init : goal.loop-level-init
 unfolding levels
 loop-level-init g c = (refl, λ d tree s. filled_none (world g.C.Cipher.gives d) tree c.args.height c.args.own c.args.out.now)
 
-pub slice-bounds-write-under-count : goal.slice-bounds-write-under-count
-slice-bounds-write-under-count g c = omega (arith, levels_fit c.loop-level.level c.args.height c.args.own c.loop-level.at (length c.loop-level.out) c.loop-level-test.true c.loop-level.invariant.0 (omega arith))
+pub slice_bounds-write_under-count : goal.slice_bounds-write_under-count
+slice_bounds-write_under-count g c = omega (arith, levels_fit c.loop-level.level c.args.height c.args.own c.loop-level.at (length c.loop-level.out) c.loop-level-test.true c.loop-level.invariant.0 (omega arith))
 
-pub slice-bounds-write-under-start : goal.slice-bounds-write-under-start
-slice-bounds-write-under-start g c = omega (arith, levels_fit c.loop-level.level c.args.height c.args.own c.loop-level.at (length c.loop-level.out) c.loop-level-test.true c.loop-level.invariant.0 (omega arith))
+pub slice_bounds-write_under-start : goal.slice_bounds-write_under-start
+slice_bounds-write_under-start g c = omega (arith, levels_fit c.loop-level.level c.args.height c.args.own c.loop-level.at (length c.loop-level.out) c.loop-level-test.true c.loop-level.invariant.0 (omega arith))
 
-pub write-under-requires : goal.write-under-requires
-write-under-requires g c =
+pub write_under-requires : goal.write_under-requires
+write_under-requires g c =
     let n = c.loop-level.level in
     let out = c.loop-level.out in
     let far : 2 ^ (n + 1) ≤ c.args.own = omega (arith, pow_mono {i = n + 1} {j = c.args.height} (omega arith)) in
     (omega arith, (far, rw (take_rest out c.loop-level.at, length-drop c.loop-level.at out) (omega (arith, levels_fit c.loop-level.level c.args.height c.args.own c.loop-level.at (length c.loop-level.out) c.loop-level-test.true c.loop-level.invariant.0 (omega arith)))))
 
-pub overflow-add-at : goal.overflow-add-at
-overflow-add-at g c = omega (arith, levels_fit c.loop-level.level c.args.height c.args.own c.loop-level.at (length c.loop-level.out) c.loop-level-test.true c.loop-level.invariant.0 (omega arith))
+pub overflow_add-at : goal.overflow_add-at
+overflow_add-at g c = omega (arith, levels_fit c.loop-level.level c.args.height c.args.own c.loop-level.at (length c.loop-level.out) c.loop-level-test.true c.loop-level.invariant.0 (omega arith))
 
 pub loop-level-preserved : goal.loop-level-preserved
 loop-level-preserved g c =
@@ -32,8 +32,8 @@ loop-level-preserved g c =
       levels_more n x c.loop-level.at c.loop-level.invariant.0,
       λ d tree s.
           let w = world g.C.Cipher.gives d in
-          let wrote = c.write-under.ensures d tree c.args.height (omega arith) (rw (add-one n) (s n c.loop-level-test.true)) in
-          rw (add-one n) (filled_more w tree c.args.height x c.args.out.now n c.loop-level.at c.loop-level.out c.write-under.new.out c.loop-level.invariant.0 (c.loop-level.invariant.1 d tree s) (rw (add-one n) at wrote)),
+          let wrote = c.write_under.ensures d tree c.args.height (omega arith) (rw (add-one n) (s n c.loop-level-test.true)) in
+          rw (add-one n) (filled_more w tree c.args.height x c.args.out.now n c.loop-level.at c.loop-level.out c.write_under.new.out c.loop-level.invariant.0 (c.loop-level.invariant.1 d tree s) (rw (add-one n) at wrote)),
     )
 
 pub returns : goal.returns

@@ -9,11 +9,11 @@ use Rattle.starts.specs.Kept.{is_kept}
 use Rattle.issuing.proofs.Above.{gathered}
 use Rattle.issuing.proofs.issue.gather.Goals as goal
 
-pub returns-in-default-of : goal.returns-in-default-of
-returns-in-default-of c =
+pub returns-in_default-of : goal.returns-in_default-of
+returns-in_default-of c =
     record {
       sound = tt;
-      gathered = λ h us s has. absurd (both_ways (is_kept h us 0) (untold (is_kept h us 0) (start_in s 0) (c.in-default-of.ensures h us s has)) refl);
+      gathered = λ h us s has. absurd (both_ways (is_kept h us 0) (untold (is_kept h us 0) (start_in s 0) (c.in_default-of.ensures h us s has)) refl);
     }
 
 pub returns : goal.returns
@@ -28,5 +28,5 @@ returns c =
           λ h us s has.
           let same : k ≡ h = c.height-height.ensures ∙ has.height in
           let all = (told (is_kept h us 0) c.in-Some-of.all (start_in s 0) (c.in-Some-of.ensures h us s has)).1 in
-          gathered h us s u _ same refl (own ∙ ap (λ (n : ℕ). leaf n u) same) (rw same at low) all (c.in-Some-starts-above.ensures h us s has);
+          gathered h us s u _ same refl (own ∙ ap (λ (n : ℕ). leaf n u) same) (rw same at low) all (c.in-Some-starts_above.ensures h us s has);
     }

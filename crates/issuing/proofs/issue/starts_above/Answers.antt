@@ -10,11 +10,11 @@ use Rattle.issuing.proofs.issue.starts_above.Goals as goal
 pub loop-level-init : goal.loop-level-init
 loop-level-init c = (refl, λ h us s has. none_above h us s c.args.own (replicate 16 (replicate 32 0)))
 
-pub returns-in-default : goal.returns-in-default
-returns-in-default c h us s has =
+pub returns-in_default : goal.returns-in_default
+returns-in_default c h us s has =
     let n = c.loop-level.level in
     let node = c.args.own / 2 ^ suc n in
-    let e = rw (add-one n) at (c.in-default.ensures h us s has) in
+    let e = rw (add-one n) at (c.in_default.ensures h us s has) in
     missing_above h us c.args.own n c.args.height c.loop-level-test.true (untold (is_kept h us node) (start_in s node) e)
 
 pub loop-level-preserved : goal.loop-level-preserved

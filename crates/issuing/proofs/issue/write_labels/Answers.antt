@@ -9,10 +9,10 @@ use Rattle.issuing.proofs.Asked.{asked_served}
 use Rattle.issuing.proofs.Written.{low, wrote, read_back}
 use Rattle.issuing.proofs.issue.write_labels.Goals as goal
 
-pub returns-in-default : goal.returns-in-default
-returns-in-default g c =
+pub returns-in_default : goal.returns-in_default
+returns-in_default g c =
     record {
-      answer = λ h us s has. rw (c.in-default.ensures.gathered h us s has) refl;
+      answer = λ h us s has. rw (c.in_default.ensures.gathered h us s has) refl;
       asked = asked_served;
       within = tt;
       memory = λ h us s d tree has drawn. refl;
@@ -26,7 +26,7 @@ returns-then-out-size g c =
       answer =
           λ h us s has.
           let v = c.in-Some.ensures.gathered h us s has in
-          let size = c.size-of-labels-size.ensures ∙ ap labels_size v.height in
+          let size = c.size_of_labels-size.ensures ∙ ap labels_size v.height in
           let short = lt-leb (labels_size h) (length c.args.out.now) (omega (arith, size, c.if-out-size.true)) in
           rw (v.served, short) refl;
       asked = asked_served;
@@ -39,7 +39,7 @@ returns-then-out-size g c =
 pub returns : goal.returns
 returns g c =
     let room = length c.args.out.now in
-    let size : (h : ℕ) → c.in-Some.sources.height ≡ h → c.size-of-labels-size.result ≡ labels_size h = λ h e. c.size-of-labels-size.ensures ∙ ap labels_size e in
+    let size : (h : ℕ) → c.in-Some.sources.height ≡ h → c.size_of_labels-size.result ≡ labels_size h = λ h e. c.size_of_labels-size.ensures ∙ ap labels_size e in
     record {
       answer =
           λ h us s has.
@@ -52,15 +52,15 @@ returns g c =
       memory =
           λ h us s d tree has drawn.
           let v = c.in-Some.ensures.gathered h us s has in
-          (wrote g.C.Cipher.gives d tree h us s c.args.receiver c.in-Some.sources drawn v c.args.out.now c.write-file.new.out
-          c.in-Some.ensures.sound.1 (c.write-file.ensures d tree)).1;
+          (wrote g.C.Cipher.gives d tree h us s c.args.receiver c.in-Some.sources drawn v c.args.out.now c.write_file.new.out
+          c.in-Some.ensures.sound.1 (c.write_file.ensures d tree)).1;
       read_back =
           λ h us s d tree has drawn.
           let v = c.in-Some.ensures.gathered h us s has in
           let u = c.args.receiver in
-          read_back (world g.C.Cipher.gives d) tree h u c.size-of-labels-size.result c.args.out.now c.write-file.new.out
+          read_back (world g.C.Cipher.gives d) tree h u c.size_of_labels-size.result c.args.out.now c.write_file.new.out
           (sound_height h us (sym (ap lowest has.sound))) (low g.C.Cipher.gives d tree h us s u c.in-Some.sources drawn v) (size h v.height)
-          (wrote g.C.Cipher.gives d tree h us s u c.in-Some.sources drawn v c.args.out.now c.write-file.new.out
-          c.in-Some.ensures.sound.1 (c.write-file.ensures d tree));
+          (wrote g.C.Cipher.gives d tree h us s u c.in-Some.sources drawn v c.args.out.now c.write_file.new.out
+          c.in-Some.ensures.sound.1 (c.write_file.ensures d tree));
       refused = tt;
     }

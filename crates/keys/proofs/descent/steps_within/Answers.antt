@@ -18,6 +18,6 @@ returns-then-part-eq0 c =
 pub returns : goal.returns
 returns c =
     record {
-      steps = λ h l. let e = proper_two h c.args.part l c.if-part.false in rw e (c.steps-down.ensures.steps h l);
-      few = c.steps-down.ensures.few;
+      steps = λ h l. let e = proper_two h c.args.part l c.if-part.false in rw e (c.steps_down.ensures.steps h l);
+      few = c.steps_down.ensures.few;
     }

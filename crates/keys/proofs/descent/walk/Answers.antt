@@ -11,7 +11,7 @@ pub loop-left-preserved : goal.loop-left-preserved
 loop-left-preserved g c d t e =
     let ahead : c.loop-left.left ≡ suc (c.loop-left.left - 1) = omega arith in
     along_more g.C.Cipher.steps (world g.C.Cipher.gives d) _ _ _ t _ _ _ _ _ (rw ahead at (c.loop-left.invariant d t e))
-    c.side-bytes-next.ensures.asked c.side-bytes-next.ensures.bytes
+    c.side_bytes-next.ensures.asked c.side_bytes-next.ensures.bytes
 
 pub returns : goal.returns
 returns g c =

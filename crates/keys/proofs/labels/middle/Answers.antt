@@ -5,4 +5,4 @@ use Rattle.keys.proofs.labels.middle.Goals as goal
 
 pub returns : goal.returns
 unfolding bytes
-returns g c = record { term = λ d t e. c.middle-bytes.ensures.bytes ∙ rw e; asked = c.middle-bytes.ensures.asked }
+returns g c = record { term = λ d t e. c.middle_bytes.ensures.bytes ∙ rw e; asked = c.middle_bytes.ensures.asked }

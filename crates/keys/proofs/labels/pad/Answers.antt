@@ -8,9 +8,9 @@ use Rattle.keys.proofs.labels.pad.Goals as goal
 
 pub returns : goal.returns
 returns g c =
-    let (low, at) = c.in-ok-counter.ensures in
+    let (low, at) = c.in_ok-counter.ensures in
     let within : leb c.args.number last_number ≡ true = le-leb c.args.number last_number low in
     record {
-      answer = (low, λ d t e. covering (world g.C.Cipher.gives d) t c.args.number _ _ _ at e c.pad-bytes.ensures.bytes);
-      asked = rw (within, ← at) (_, c.pad-bytes.ensures.asked, refl);
+      answer = (low, λ d t e. covering (world g.C.Cipher.gives d) t c.args.number _ _ _ at e c.pad_bytes.ensures.bytes);
+      asked = rw (within, ← at) (_, c.pad_bytes.ensures.asked, refl);
     }

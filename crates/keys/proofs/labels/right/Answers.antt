@@ -7,6 +7,6 @@ pub returns : goal.returns
 unfolding bytes
 returns g c =
     record {
-      term = λ d t e. ap (λ (p : List ℕ × List ℕ). p.1) c.sides-bytes.ensures.bytes ∙ rw e;
-      asked = c.sides-bytes.ensures.asked;
+      term = λ d t e. ap (λ (p : List ℕ × List ℕ). p.1) c.sides_bytes.ensures.bytes ∙ rw e;
+      asked = c.sides_bytes.ensures.asked;
     }

@@ -6,9 +6,9 @@ use Rattle.keys.proofs.labels.sides.Goals as goal
 pub returns : goal.returns
 unfolding bytes
 returns g c =
-    let halves = c.sides-bytes.ensures.bytes in
+    let halves = c.sides_bytes.ensures.bytes in
     record {
       left = λ d t e. ap (λ (p : List ℕ × List ℕ). p.0) halves ∙ rw e;
       right = λ d t e. ap (λ (p : List ℕ × List ℕ). p.1) halves ∙ rw e;
-      asked = c.sides-bytes.ensures.asked;
+      asked = c.sides_bytes.ensures.asked;
     }

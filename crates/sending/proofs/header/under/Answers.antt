@@ -10,7 +10,7 @@ returns c =
     let pad = c.args.pad in
     let session = c.args.session in
     let plain = session ++ replicate 16 0 in
-    let is_plain : c.copy-from-slice.new.self ++ replicate 16 0 ≡ plain = ap (λ (l : List ℕ). l ++ replicate 16 0) c.copy-from-slice.ensures.after in
+    let is_plain : c.copy_from_slice.new.self ++ replicate 16 0 ≡ plain = ap (λ (l : List ℕ). l ++ replicate 16 0) c.copy_from_slice.ensures.after in
     let long : length plain ≡ 48 = omega (arith, length-append session (replicate 16 0)) in
     ext_get_or 0 _ _
     (omega (arith, c.loop-i.invariant.0, length_xors pad plain))

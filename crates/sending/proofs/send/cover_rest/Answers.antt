@@ -7,9 +7,9 @@ use Rattle.tree.specs.Promise.{most}
 use Rattle.sending.proofs.Counted.{fitted_ok, few_parts}
 use Rattle.sending.proofs.send.cover_rest.Goals as goal
 
-pub overflow-cast-result : goal.overflow-cast-result
-overflow-cast-result c =
+pub overflow_cast-result : goal.overflow_cast-result
+overflow_cast-result c =
     let h = c.args.height in
     let rs = c.args.revoked.now in
-    let (none, room, count) = fitted_ok (lowest (list_faults h rs)) (most (length rs)) (length c.args.parts.now) (length (cover h rs)) c.in-ok-count.count c.in-ok-count.ensures.answer in
+    let (none, room, count) = fitted_ok (lowest (list_faults h rs)) (most (length rs)) (length c.args.parts.now) (length (cover h rs)) c.in_ok-count.count c.in_ok-count.ensures.answer in
     omega (arith, count, few_parts h rs none)

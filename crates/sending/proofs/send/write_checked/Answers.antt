@@ -12,40 +12,40 @@ use Rattle.sending.proofs.Parts.{all_sendable}
 use Rattle.sending.proofs.Whole.{sent_in}
 use Rattle.sending.proofs.send.write_checked.Goals as goal
 
-pub write-headers-requires : goal.write-headers-requires
-write-headers-requires g c =
+pub write_headers-requires : goal.write_headers-requires
+write_headers-requires g c =
     let k = c.args.height in
     let rs = c.args.revoked.now in
     let before = c.args.parts.now in
-    let mid = c.copy-from-slice.new.self ++ drop 10 c.args.out.now in
+    let mid = c.copy_from_slice.new.self ++ drop 10 c.args.out.now in
     let e = c.in-Ok.ensures in
-    let noted = noted_is k rs before c.cover-rest.new.parts c.in-Ok.count e.answer e.memory in
-    let few = few_noted k rs before c.cover-rest.new.parts c.in-Ok.count e.answer e.memory in
-    let long = length-append c.copy-from-slice.new.self (drop 10 c.args.out.now) in
-    rw (noted, take_rest mid 10, length-drop 10 mid) (omega (arith, few, long, length-drop 10 c.args.out.now, c.copy-from-slice.ensures.len))
+    let noted = noted_is k rs before c.cover_rest.new.parts c.in-Ok.count e.answer e.memory in
+    let few = few_noted k rs before c.cover_rest.new.parts c.in-Ok.count e.answer e.memory in
+    let long = length-append c.copy_from_slice.new.self (drop 10 c.args.out.now) in
+    rw (noted, take_rest mid 10, length-drop 10 mid) (omega (arith, few, long, length-drop 10 c.args.out.now, c.copy_from_slice.ensures.len))
 
-pub returns-in-Ok-write-headers : goal.returns-in-Ok-write-headers
-returns-in-Ok-write-headers g c =
+pub returns-in-Ok-write_headers : goal.returns-in-Ok-write_headers
+returns-in-Ok-write_headers g c =
     let k = c.args.height in
     let rs = c.args.revoked.now in
     let before = c.args.out.now in
     let e = c.in-Ok.ensures in
-    let count = count_is k rs c.args.parts.now c.cover-rest.new.parts c.in-Ok.count e.answer e.memory in
-    let noted = noted_is k rs c.args.parts.now c.cover-rest.new.parts c.in-Ok.count e.answer e.memory in
-    let few = few_noted k rs c.args.parts.now c.cover-rest.new.parts c.in-Ok.count e.answer e.memory in
+    let count = count_is k rs c.args.parts.now c.cover_rest.new.parts c.in-Ok.count e.answer e.memory in
+    let noted = noted_is k rs c.args.parts.now c.cover_rest.new.parts c.in-Ok.count e.answer e.memory in
+    let few = few_noted k rs c.args.parts.now c.cover_rest.new.parts c.in-Ok.count e.answer e.memory in
     let (low, none) = order_sound k c.args.number rs c.requires.sound in
-    let front = c.copy-from-slice.ensures.after ∙ c.head-bytes.ensures in
+    let front = c.copy_from_slice.ensures.after ∙ c.head_bytes.ensures in
     record {
-      within = omega (arith, c.size-of-sending.ensures, count, few);
+      within = omega (arith, c.size_of_sending.ensures, count, few);
       written =
           λ s has. (
-            c.size-of-sending.ensures ∙ ap sending_size count,
+            c.size_of_sending.ensures ∙ ap sending_size count,
             e.memory,
             λ d m o.
-                let wrote = c.in-Ok-write-headers.ensures k rs s has low (subst (AllSendable k rs) (sym noted) (all_sendable k rs (sound k rs none).1)) d (as_trial k m) o.number o.starts o.session in
+                let wrote = c.in-Ok-write_headers.ensures k rs s has low (subst (AllSendable k rs) (sym noted) (all_sendable k rs (sound k rs none).1)) d (as_trial k m) o.number o.starts o.session in
                 let parts = noted ∙ ap (cover k) (sym o.revoked) in
                 let head = ap (λ (l : List ℕ). l ++ drop 10 before) (front ∙ ap (λ (n : ℕ). sending_head k n c.in-Ok.count) (sym o.number) ∙ ap (sending_head k m.number) (count ∙ ap (λ (r : List ℕ). length (cover k r)) (sym o.revoked))) in
-                sent_in (world g.C.Cipher.gives d) k m before _ c.write-headers.new.out head (rw parts at wrote),
+                sent_in (world g.C.Cipher.gives d) k m before _ c.write_headers.new.out head (rw parts at wrote),
           );
     }
 
@@ -58,7 +58,7 @@ returns-in-Err g c =
           let k = c.args.height in
           let rs = c.args.revoked.now in
           let e = c.in-Ok.ensures in
-          let noted = noted_is k rs c.args.parts.now c.cover-rest.new.parts c.in-Ok.count e.answer e.memory in
+          let noted = noted_is k rs c.args.parts.now c.cover_rest.new.parts c.in-Ok.count e.answer e.memory in
           let (low, none) = order_sound k c.args.number rs c.requires.sound in
           c.in-Err.ensures k rs s has low (subst (AllSendable k rs) (sym noted) (all_sendable k rs (sound k rs none).1));
     }

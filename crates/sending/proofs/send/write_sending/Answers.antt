@@ -29,18 +29,18 @@ returns-in-Some g c =
       few = covers;
       air = file_is_air;
       secret = sendings_secret;
-      over-bytes = shows_bytes;
+      over_bytes = shows_bytes;
     }
 
-pub returns-then-not-has-room : goal.returns-then-not-has-room
-returns-then-not-has-room g c =
+pub returns-then-not-has_room : goal.returns-then-not-has_room
+returns-then-not-has_room g c =
     record {
       answer =
           λ h s has.
           let same = c.height-height.ensures ∙ has.height in
           let none : lowest (send_faults h c.args.number c.args.revoked.now) ≡ None =
-          ap (λ (x : ℕ). lowest (send_faults x c.args.number c.args.revoked.now)) (sym same) ∙ sym c.in-default.ensures in
-          let test = rw c.room-for.ensures at c.if-not-has-room.ensures in
+          ap (λ (x : ℕ). lowest (send_faults x c.args.number c.args.revoked.now)) (sym same) ∙ sym c.in_default.ensures in
+          let test = rw c.room_for.ensures at c.if-not-has_room.ensures in
           rw (none, ← test) refl;
       within = tt;
       parts = λ h s has. refl;
@@ -49,7 +49,7 @@ returns-then-not-has-room g c =
       few = covers;
       air = file_is_air;
       secret = sendings_secret;
-      over-bytes = shows_bytes;
+      over_bytes = shows_bytes;
     }
 
 pub returns-in-Ok : goal.returns-in-Ok
@@ -64,8 +64,8 @@ returns-in-Ok g c =
     record {
       answer =
           λ h s has.
-          let none : lowest (send_faults h n rs) ≡ None = ap (λ (x : ℕ). lowest (send_faults x n rs)) (same h s has) ∙ sym c.in-default.ensures in
-          let test = rw c.room-for.ensures at c.if-not-has-room.ensures in
+          let none : lowest (send_faults h n rs) ≡ None = ap (λ (x : ℕ). lowest (send_faults x n rs)) (same h s has) ∙ sym c.in_default.ensures in
+          let test = rw c.room_for.ensures at c.if-not-has_room.ensures in
           let size = (w.written s (at-k h s has)).0 ∙ ap (λ (x : ℕ). sending_size (length (cover x rs))) (sym (same h s has)) in
           rw (none, ← test, size) refl;
       within = w.within;
@@ -78,16 +78,16 @@ returns-in-Ok g c =
           λ h s d m has o.
           let at = subst (λ (x : ℕ). Ordered g.C.Cipher.gives s x n rs c.args.session d m) (same h s has) o in
           let v = world g.C.Cipher.gives d in
-          let here = subst (λ (x : ℕ). SentIn v x m c.args.out.now c.write-checked.new.out) (sym (same h s has)) ((w.written s (at-k h s has)).2 d m at) in
+          let here = subst (λ (x : ℕ). SentIn v x m c.args.out.now c.write_checked.new.out) (sym (same h s has)) ((w.written s (at-k h s has)).2 d m at) in
           let size = (w.written s (at-k h s has)).0 ∙ ap (λ (x : ℕ). sending_size (length (cover x rs))) (sym (same h s has)) in
           let none : None ≡ lowest (send_faults h m.number m.revoked) =
-          c.in-default.ensures ∙ ap (λ (x : ℕ). lowest (send_faults x n rs)) (sym (same h s has))
+          c.in_default.ensures ∙ ap (λ (x : ℕ). lowest (send_faults x n rs)) (sym (same h s has))
           ∙ ap (λ (x : ℕ). lowest (send_faults h x rs)) (sym o.number) ∙ ap (λ (r : List ℕ). lowest (send_faults h m.number r)) (sym o.revoked) in
-          sent_back v h m c.args.out.now c.write-checked.new.out none here n rs c.in-Ok.size o.number o.revoked size;
+          sent_back v h m c.args.out.now c.write_checked.new.out none here n rs c.in-Ok.size o.number o.revoked size;
       few = covers;
       air = file_is_air;
       secret = sendings_secret;
-      over-bytes = shows_bytes;
+      over_bytes = shows_bytes;
     }
 
 pub returns-in-Err : goal.returns-in-Err
@@ -105,5 +105,5 @@ returns-in-Err g c =
       few = covers;
       air = file_is_air;
       secret = sendings_secret;
-      over-bytes = shows_bytes;
+      over_bytes = shows_bytes;
     }

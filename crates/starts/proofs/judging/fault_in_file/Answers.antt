@@ -7,7 +7,7 @@ use Rattle.starts.proofs.judging.fault_in_file.Goals as goal
 
 pub returns-in-Ok : goal.returns-in-Ok
 returns-in-Ok c s is read =
-    c.when.ensures ∙ ap (λ (n : ℕ). lowest (when (not (eqb c.args.size n)) Malformed)) c.size-of-starts.ensures
+    c.when.ensures ∙ ap (λ (n : ℕ). lowest (when (not (eqb c.args.size n)) Malformed)) c.size_of_starts.ensures
     ∙ size_judged s c.args.head.now c.args.size is read c.if-size-lt2.false c.in-Ok.height c.in-Ok.ensures
 
 pub returns-in-Err : goal.returns-in-Err

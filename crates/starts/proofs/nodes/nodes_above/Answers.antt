@@ -7,13 +7,13 @@ use Rattle.starts.proofs.nodes.nodes_above.Goals as goal
 
 pub loop-level-init : goal.loop-level-init
 unfolding levels_above
-loop-level-init c = c.in-ok-nodes.ensures.items-if-clones-equal (λ y e. e)
+loop-level-init c = c.in_ok-nodes.ensures.items_if_clones_equal (λ y e. e)
 
 pub loop-level-preserved : goal.loop-level-preserved
 unfolding levels_above
 loop-level-preserved c =
     rw (add-one c.loop-level.level)
-    (c.in-ok-push-level.ensures ∙ ap (λ (xs : List ℕ). xs ++ level_above c.args.height c.args.receivers.now c.loop-level.level) c.loop-level.invariant)
+    (c.in_ok-push_level.ensures ∙ ap (λ (xs : List ℕ). xs ++ level_above c.args.height c.args.receivers.now c.loop-level.level) c.loop-level.invariant)
 
 pub returns : goal.returns
 returns c =

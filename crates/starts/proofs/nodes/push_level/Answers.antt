@@ -2,10 +2,10 @@
 use Rattle.starts.specs.Levels.{node_on}
 use Rattle.starts.proofs.Pushed.{faultless, below_at, pushed_all, pushed_new, pushed_same}
 use Rattle.starts.proofs.nodes.push_level.Goals as goal
-use Rattle.starts.proofs.nodes.push_level.Goals.{then-node-last+in-ok-push, else-node-last}
+use Rattle.starts.proofs.nodes.push_level.Goals.{then-node-last+in_ok-push, else-node-last}
 
-pub node-on-node-requires : goal.node-on-node-requires
-node-on-node-requires c =
+pub node_on-node-requires : goal.node_on-node-requires
+node_on-node-requires c =
     let sound = faultless c.args.height c.args.receivers.now c.requires.faultless in
     record {
       height = sound.0;
@@ -16,14 +16,14 @@ node-on-node-requires c =
 pub loop-receiver-preserved : goal.loop-receiver-preserved
 loop-receiver-preserved c =
     elim c.if-node-last.branch [
-      | then-node-last+in-ok-push w ↦
-          rw (w.nodes-is, w.last-is, w.in-ok-push.ensures.items)
+      | then-node-last+in_ok-push w ↦
+          rw (w.nodes-is, w.last-is, w.in_ok-push.ensures.items)
           (pushed_new (node_on c.args.height c.args.level) c.args.receivers.now _ _ c.loop-receiver.last c.loop-receiver.receiver-index
-          c.loop-receiver.invariant c.node-on-node.result c.node-on-node.ensures c.loop-receiver-test.true w.if-node-last.true)
+          c.loop-receiver.invariant c.node_on-node.result c.node_on-node.ensures c.loop-receiver-test.true w.if-node-last.true)
       | else-node-last w ↦
           rw (w.nodes-is, w.last-is)
           (pushed_same (node_on c.args.height c.args.level) c.args.receivers.now _ _ c.loop-receiver.last c.loop-receiver.receiver-index
-          c.loop-receiver.invariant c.node-on-node.result c.node-on-node.ensures c.loop-receiver-test.true w.if-node-last.false)
+          c.loop-receiver.invariant c.node_on-node.result c.node_on-node.ensures c.loop-receiver-test.true w.if-node-last.false)
     ]
 
 pub returns : goal.returns

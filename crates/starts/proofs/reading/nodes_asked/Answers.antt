@@ -26,10 +26,10 @@ returns-in-None c =
     let h = c.args.height in
     let us = c.args.receivers.now in
     let none = lowest_none (list_faults h us) (sym c.in-None.is ∙ c.requires) in
-    let kept = c.nodes-above.ensures in
+    let kept = c.nodes_above.ensures in
     let Kept : Vec ℕ Global → Type 0 = λ v. KeptNodes h us (vec_items v) in
     record {
-      exact = IfOk-weaker c.nodes-above.result Kept (λ v. list_faults h us ≡ [] → Kept v) (λ v k _. k) kept;
-      rises = IfOk-weaker c.nodes-above.result Kept (λ v. T (rising (vec_items v))) (λ v k. k.rises) kept;
-      few = IfOk-weaker c.nodes-above.result Kept (λ v. vec_len v ≤ 1 + max_height * 2 ^ max_height) (λ v k. omega (arith, few_nodes h us (vec_items v) none k, v.ok.0)) kept;
+      exact = IfOk-weaker c.nodes_above.result Kept (λ v. list_faults h us ≡ [] → Kept v) (λ v k _. k) kept;
+      rises = IfOk-weaker c.nodes_above.result Kept (λ v. T (rising (vec_items v))) (λ v k. k.rises) kept;
+      few = IfOk-weaker c.nodes_above.result Kept (λ v. vec_len v ≤ 1 + max_height * 2 ^ max_height) (λ v k. omega (arith, few_nodes h us (vec_items v) none k, v.ok.0)) kept;
     }

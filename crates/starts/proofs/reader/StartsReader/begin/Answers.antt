@@ -5,14 +5,14 @@ use Rattle.starts.proofs.reader.StartsReader.begin.Goals as goal
 
 pub returns : goal.returns
 returns c =
-    let nodes = c.in-ok-nodes.nodes in
+    let nodes = c.in_ok-nodes.nodes in
     record {
       height = refl;
-      asked = c.fault-in-asked.ensures;
-      nodes = c.in-ok-nodes.ensures.exact;
-      rises = c.in-ok-nodes.ensures.rises;
+      asked = c.fault_in-asked.ensures;
+      nodes = c.in_ok-nodes.ensures.exact;
+      rises = c.in_ok-nodes.ensures.rises;
       head = refl;
-      starts = cells_begun c.len.result (vec_items nodes) _ (c.len.ensures ∙ nodes.ok.0) (c.in-ok-kept.ensures.items-if-clones-equal (λ y e. e));
+      starts = cells_begun c.len.result (vec_items nodes) _ (c.len.ensures ∙ nodes.ok.0) (c.in_ok-kept.ensures.items_if_clones_equal (λ y e. e));
       at = refl;
       done = λ j l. absurd (omega arith);
     }

@@ -8,5 +8,5 @@ use Rattle.starts.proofs.reader.StartsReader.fault.Goals as goal
 pub returns : goal.returns
 returns c h us s r =
     let reader = c.args.self.now in
-    c.lower-of-2.ensures.lower ∙ ap (λ (o : Option Fault). lower o reader.asked) c.lower-of.ensures.lower
-    ∙ fault_asked h us s reader.head reader.height r.height r.head _ _ _ (c.fault-in-file-in-file.ensures s r.head r.at) c.when-of-height.ensures r.asked
+    c.lower_of-2.ensures.lower ∙ ap (λ (o : Option Fault). lower o reader.asked) c.lower_of.ensures.lower
+    ∙ fault_asked h us s reader.head reader.height r.height r.head _ _ _ (c.fault_in_file-in_file.ensures s r.head r.at) c.when-of_height.ensures r.asked

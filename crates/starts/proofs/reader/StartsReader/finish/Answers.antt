@@ -7,7 +7,7 @@ use Rattle.starts.proofs.reader.StartsReader.finish.Goals as goal
 
 pub returns : goal.returns
 returns c h us s r =
-    let none = lowest_none (asked_faults h us s) (sym c.in-default.is ∙ c.fault.ensures h us s r) in
+    let none = lowest_none (asked_faults h us s) (sym c.in_default.is ∙ c.fault.ensures h us s r) in
     let kept = r.nodes (asked_sound h us s none) in
     record {
       height = r.height;
