@@ -1,6 +1,7 @@
 // The ChaCha20 block function of RFC 8439: 64 bytes from a key, a block counter and a nonce.
 // Words are little-endian, and their sums wrap.
 #![tactic(auto)]
+
 ghost use Rattle.std.specs.Simd.Lanes.{zip2};
 ghost use Rattle.std.specs.Prelude.{◌≡◌, ◌+◌, ◌*◌, ◌<◌, ◌≤◌, length};
 ghost use Rattle.chacha.specs.Examples.{QuarterRoundExample, BlockExample};

@@ -65,7 +65,7 @@ mod tests {
         };
         assert!(rt; size == 14);
         assert!(rt;
-            &bytes[0..size] == b"\x01\x03\0\0\0\x02\0\0\0\0\0\0\0\x05",
+            &bytes[0..size] == b"\x01\x03\0\0\0\x02\0\0\0\0\0\0\0\x05".as_slice(),
             "the bytes"
         );
         assert!(rt; bytes[14] == 9 && bytes[15] == 9, "the rest is as it was");

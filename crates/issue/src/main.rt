@@ -1,10 +1,11 @@
 //! `issue STARTS DIR RECEIVER...` writes the label files of receivers.
 #![tactic(auto)]
+
 mod asked;
 mod files;
 
-use asked::{Range, read_range, receivers_in};
 use anyhow::anyhow;
+use asked::{Range, read_range, receivers_in};
 use cli::Stop;
 use cli::pieces::Pieces;
 use files::write_files;
@@ -64,7 +65,7 @@ fn read_order(rt: &HostRuntime) -> Result<Option<Order>, Stop> {
     if ranges.is_empty() {
         return Err(Stop::Failed(anyhow!(USAGE)));
     }
-    ranges.sort();
+    ranges.sort()?;
     Ok(Some(Order {
         starts,
         dir,

@@ -1,5 +1,6 @@
 //! Label files: what each receiver is given to hold.
 #![tactic(auto)]
+
 mod entries;
 mod file;
 pub mod issue;

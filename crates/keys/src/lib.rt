@@ -1,6 +1,7 @@
 //! Labels and keys, as the bytes of terms: what comes from a label, going down the tree, the key of a part, and the bytes that cover a session key.
 //! Assumes nothing.
 #![tactic(auto)]
+
 ghost use Rattle.keys.specs.Drawn.{ZozhimbeReal};
 ghost use Rattle.keys.specs.Log.{LogExact};
 

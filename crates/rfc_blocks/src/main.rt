@@ -1,5 +1,6 @@
 // Puts the test vectors of RFC 8439 to the proved block function, and prints each block with whether it agrees.
 #![tactic(auto)]
+
 ghost use Rattle.std.specs.Prelude.{◌≡◌, Decides};
 ghost use Rattle.chacha.specs.Rfc8439.{chacha20_block};
 

@@ -1,5 +1,6 @@
 //! `send LIST N STARTS DRAWN OUT` writes a sending.
 #![tactic(auto)]
+
 mod order;
 
 use cli::Stop;

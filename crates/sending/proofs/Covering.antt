@@ -1,5 +1,5 @@
 -- A covered session key is the bytes of the terms of a header. Assumes nothing.
-use Rattle.std.proofs.Common.{◌≡◌, ℕ, suc, ◌+◌, List, [], ◌++◌, length, take, drop, replicate, sym, ap, ◌∙◌, ap₂, append-nil, arith, length-append}
+use Rattle.std.proofs.Common.{◌≡◌, ℕ, suc, List, [], ◌++◌, length, take, drop, replicate, sym, ap, ◌∙◌, ap₂, append-nil, arith, length-append}
 use Rattle.std.proofs.lemmas.List.{length-take}
 use Rattle.secrecy.specs.Terms.{Term, Pad, Check, Session, Xor}
 use Rattle.secrecy.specs.Worlds.{World, xors, bytes}

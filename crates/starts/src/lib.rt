@@ -1,6 +1,7 @@
 //! The file of starts, read once from front to end in any pieces: what is kept of it are the starts of the nodes above some receivers.
 //! It is the one format that needs a heap to be read, so it stands apart from the others.
 #![tactic(auto)]
+
 mod cells;
 pub mod head;
 mod judging;

@@ -1,5 +1,5 @@
 -- Each part of a cover is (0, 0), or a node of the tree and one strictly below it. Assumes nothing.
-use Rattle.std.proofs.Common.{◌≡◌, ℕ, zero, suc, ◌+◌, ◌-◌, ◌*◌, ◌^◌, ◌<◌, ◌≤◌, false, not, ◌&&◌, T, eqb, ltb, ◌⊎◌, List, [], ◌∷◌, sym, subst, ⊎_elim, arith, pow_pos, pow_mono}
+use Rattle.std.proofs.Common.{◌≡◌, ℕ, zero, suc, ◌+◌, ◌-◌, ◌*◌, ◌^◌, ◌<◌, ◌≤◌, false, not, ◌&&◌, T, eqb, ltb, List, [], ◌∷◌, sym, subst, ⊎_elim, arith, pow_pos, pow_mono}
 use mathlib.Core.List.Memᴰ
 use mathlib.Core.List.{Memᴰ}
 use Rattle.std.proofs.lemmas.Bool.{and_from, or_right, lt-ltb, not_from_false, cond_both}

@@ -1,6 +1,7 @@
 //! Test data that an independent program made for a tree of height 3, worked out again and compared: the label file of each receiver, from starts
 //! that are cut into pieces of several sizes, and sendings; all of them read back. Then what is refused, by its number.
 #![tactic(auto)]
+
 mod sendings;
 
 ghost use Rattle.std.specs.Prelude.{◌<◌};

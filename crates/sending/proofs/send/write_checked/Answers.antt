@@ -1,5 +1,5 @@
 -- The parts are noted, the front of the file is written, and then the headers behind it.
-use Rattle.std.proofs.Common.{ℕ, ◌-◌, List, ◌++◌, length, drop, sym, ap, ◌∙◌, subst, arith, length-append}
+use Rattle.std.proofs.Common.{ℕ, List, ◌++◌, length, drop, sym, ap, ◌∙◌, subst, arith, length-append}
 use Rattle.std.proofs.lemmas.List.{take_rest, length-drop}
 use Rattle.tree.specs.Cover.{cover}
 use Rattle.tree.proofs.Judged.{sound}
