@@ -1,4 +1,4 @@
-// The block for callers outside Rattle: slices of any length come in, and those of a wrong length are refused.
+// The block as `chacha_c` exports it to callers outside Rattle: slices of any length come in, and those of a wrong length are refused.
 ghost use Rattle.std.specs.Prelude.{◌≡◌, ◌&&◌, length, if◌then◌else◌, ◌==◌};
 ghost use Rattle.chacha.specs.Rfc8439.{chacha20_block};
 
@@ -6,8 +6,7 @@ use crate::block;
 
 /// Writes the block to `out`, or changes nothing and returns false where the key is not of 32 bytes, the nonce not of 12
 /// or `out` not of 64.
-#[unsafe(no_mangle)]
-pub extern "C" fn zozhimbe_block(key: &[u8], counter: u32, nonce: &[u8], out: &mut [u8]) -> bool
+pub fn zozhimbe_block(key: &[u8], counter: u32, nonce: &[u8], out: &mut [u8]) -> bool
     ensures accepts { result ≡ (length key.now == 32 && length nonce.now == 12 && length out.old == 64) }
     ensures after { out.new ≡ (if result then chacha20_block key.now counter nonce.now else out.old) }
 {

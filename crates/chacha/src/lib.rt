@@ -8,7 +8,7 @@ ghost use Rattle.chacha.specs.Examples.{QuarterRoundExample, BlockExample};
 ghost use Rattle.chacha.specs.Rfc8439.{plus, quarter_round, quarter_round_at, column_round, diagonal_round, double_rounds, word_at, initial_state, bytes_of, block_from, chacha20_block};
 ghost use Rattle.std.specs.List.{flat_map};
 
-mod ffi;
+pub mod ffi;
 
 /// Four rows of four words.
 type State = [u32; 16];

@@ -120,8 +120,11 @@ pub fn lower_of(a: Option<Fault>, b: Option<Fault>) -> Option<Fault>
     ensures lower { result ≡ lower a b }
     ensures least { LowestLeast }
 {
-    match a {
-        Some(fault) => Some(lower_than(fault, b)),
-        None => b,
-    }
+    let Some(f) = a else {
+        return b;
+    };
+    let Some(g) = b else {
+        return a;
+    };
+    if f.is_at_most(g) { a } else { b }
 }

@@ -2,9 +2,9 @@
 ghost use Rattle.std.specs.Prelude.{◌≡◌, ◌^◌, ◌&&◌, if◌then◌else◌, Some, None, nat_lt};
 ghost use Rattle.tree.specs.Nodes.{leaf};
 ghost use Rattle.tree.specs.Receivers.{is_height};
-ghost use Rattle.tree.specs.Ways.{sibling};
 
 use crate::receivers::{MAX_HEIGHT, size_of_tree};
+pub use crate::walk::sibling_of;
 
 /// The node of a receiver, if the tree has it.
 pub fn leaf_of(height: u8, receiver: u32) -> Option<u32>
@@ -14,11 +14,4 @@ pub fn leaf_of(height: u8, receiver: u32) -> Option<u32>
         return None;
     }
     Some(size_of_tree(height) as u32 + receiver)
-}
-
-/// The other node below the same one.
-pub fn sibling_of(node: u32) -> u32
-    ensures { result ≡ sibling node }
-{
-    if node % 2 == 0 { node + 1 } else { node - 1 }
 }

@@ -1,12 +1,19 @@
 //! Walking a receiver's way up the tree, from one node that hangs off it to the next. Assumes nothing.
 ghost use Rattle.std.specs.Prelude.{◌≡◌, ◌^◌, ◌<◌, ◌&&◌, [], ◌∷◌, is_some, IfSome, Some, None, MatchOption, nat_lt};
 ghost use Rattle.tree.specs.Receivers.{is_height};
-ghost use Rattle.tree.specs.Ways.{way};
+ghost use Rattle.tree.specs.Ways.{sibling, way};
 ghost use Rattle.tree.specs.Walks.{left_of};
 
-use crate::nodes::{leaf_of, sibling_of};
+use crate::nodes::leaf_of;
 use crate::parts::Part;
 use crate::way::Way;
+
+/// The other node below the same one.
+pub fn sibling_of(node: u32) -> u32
+    ensures { result ≡ sibling node }
+{
+    if node % 2 == 0 { node + 1 } else { node - 1 }
+}
 
 impl Way {
     /// The way of a receiver, if the tree has it.

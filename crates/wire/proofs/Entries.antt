@@ -4,7 +4,7 @@ use Rattle.std.proofs.lemmas.List.{take_at, drop_at, drop-drop}
 use Rattle.std.proofs.lemmas.Bool.{and_parts, ltb-true}
 use Rattle.tree.specs.declared.parts.Part.{Part}
 use Rattle.tree.specs.Nodes.{max_height, in_tree}
-use Rattle.wire.specs.Entries.{places_of, bodies_of, Wide, entry_bytes, placed}
+use Rattle.wire.specs.Entries.{entry_places, bodies_of, Wide, entry_bytes, placed}
 use Rattle.wire.proofs.Bytes.{word_of_bytes}
 
 -- nodes that four bytes can hold
@@ -59,8 +59,8 @@ module _ (w : ℕ) where
       let k : length bs ≡ length ps = omega arith in
       rw (body_first p b (placed ps bs) f, after_first p b (placed ps bs) f, bodies_placed ps bs k fs)
 
-  pub places_placed : (ps : List Part) (bs : List (List ℕ)) → length bs ≡ length ps → Wide w bs → Narrow ps → places_of (8 + w) (length ps) (placed ps bs) ≡ ps
-  unfolding placed places_of
+  pub places_placed : (ps : List Part) (bs : List (List ℕ)) → length bs ≡ length ps → Wide w bs → Narrow ps → entry_places (8 + w) (length ps) (placed ps bs) ≡ ps
+  unfolding placed entry_places
   places_placed [] bs e f n = refl
   places_placed (p ∷ ps) [] e f n = absurd (omega arith)
   places_placed (p ∷ ps) (b ∷ bs) e (f, fs) ((i, j), n) =

@@ -3,18 +3,18 @@ use Rattle.std.proofs.Common.{◌≡◌, ℕ, suc, ◌/◌, ◌≤◌, Bool, tru
 use Rattle.std.proofs.lemmas.List.{length-drop}
 use Rattle.tree.specs.Nodes.{in_tree}
 use Rattle.tree.specs.Parts.{is_all, descends}
-use Rattle.wire.specs.Entries.{first_place, places_of}
+use Rattle.wire.specs.Entries.{first_place, entry_places}
 use Rattle.wire.specs.Sending.{parts_in, all_inside, all_descend}
 
 parts_step : (s : List ℕ) → 56 ≤ length s → parts_in s ≡ first_place s ∷ parts_in (drop 56 s)
-unfolding places_of
+unfolding entry_places
 parts_step s l =
     let d = length-drop 56 s in
     let e : length s / 56 ≡ suc (length (drop 56 s) / 56) = omega arith in
     rw e
 
 parts_none : (s : List ℕ) → length s ≡ 0 → parts_in s ≡ []
-unfolding places_of
+unfolding entry_places
 parts_none s l = let e : length s / 56 ≡ 0 = omega arith in rw e
 
 regroup : (a b c : Bool) → ((a && b) && c) ≡ (a && (b && c))

@@ -5,8 +5,8 @@ use Rattle.tree.specs.declared.parts.Part.{Part}
 use Rattle.tree.specs.declared.way.Way.{Way}
 use Rattle.tree.specs.Nodes.{in_tree}
 use Rattle.tree.specs.Walks.{left_of}
-use Rattle.wire.specs.Entries.{first_place, places_of}
-use Rattle.wire.specs.Labels.{places, all_in_tree, same_places}
+use Rattle.wire.specs.Entries.{first_place}
+use Rattle.wire.specs.Labels.{places_of, places, all_in_tree, same_places}
 
 pub places_step : (s : List ℕ) → 40 ≤ length s → places s ≡ first_place s ∷ places (drop 40 s)
 unfolding places_of

@@ -9,9 +9,9 @@ abbrev pub first_place : List ℕ → Part
 first_place s = part (word_at s 0) (word_at s 4)
 
 -- the nodes of n entries of this size
-unfoldable pub places_of : ℕ → ℕ → List ℕ → List Part
-places_of size zero s = []
-places_of size (suc n) s = first_place s ∷ places_of size n (drop size s)
+unfoldable pub entry_places : ℕ → ℕ → List ℕ → List Part
+entry_places size zero s = []
+entry_places size (suc n) s = first_place s ∷ entry_places size n (drop size s)
 
 -- the bodies of n entries of this size
 unfoldable pub bodies_of : ℕ → ℕ → List ℕ → List (List ℕ)

@@ -1,13 +1,12 @@
 //! A receiver's labels as a file. Assumes nothing.
 ghost use Rattle.std.specs.Prelude.{◌≡◌, ◌%◌, ◌≤◌, ◌&&◌, length, ◌==◌, slice_index};
 ghost use Rattle.fault.specs.Lowest.{judged};
-ghost use Rattle.tree.specs.Nodes.{max_height};
+ghost use Rattle.tree.specs.Nodes.{max_height, in_tree};
 ghost use Rattle.tree.specs.Walks.{left_of};
-ghost use Rattle.wire.specs.Entries.{entry_bytes};
+ghost use Rattle.wire.specs.Entries.{first_place, entry_bytes};
 ghost use Rattle.wire.specs.Labels.{places, labels_head, all_in_tree, same_places, labels_size, labels_in, labels_faults, labels_faults_for, said_by};
 
 use crate::head::{read_head, write_head};
-use crate::nodes::{first_place, is_in_tree};
 use crate::words::{word_at, write_word};
 use fault::{Fault, lower_than};
 use tree::parts::Part;
@@ -35,7 +34,7 @@ pub fn size_of_labels(height: u8) -> usize
     ensures { result ≡ labels_size height }
 {
     let h = height as usize;
-    HEAD + ENTRY * (h * (h + 1) / 2)
+    38 + ENTRY * (h * (h + 1) / 2)
 }
 
 /// A label with its place, as a file has it.
@@ -60,10 +59,28 @@ pub fn head_bytes(height: u8, receiver: u32, start: [u8; 32]) -> [u8; HEAD]
     bytes
 }
 
+pub(crate) fn is_in_tree(height: u8, node: u32) -> bool
+    requires { height ≤ max_height }
+    ensures { result ≡ in_tree height node }
+{
+    0 < node && node < 1u32 << (height + 1)
+}
+
 fn is_same(a: Part, b: Part) -> bool
     ensures { result ≡ (a.first == b.first && a.second == b.second) }
 {
     a.first == b.first && a.second == b.second
+}
+
+/// The two nodes of the first of some entries.
+pub(crate) fn first_place(entries: &[u8]) -> Part
+    requires { 8 ≤ length entries.now }
+    ensures { result ≡ first_place entries.now }
+{
+    Part {
+        first: word_at(entries, 0),
+        second: word_at(entries, 4),
+    }
 }
 
 /// Whether all nodes that labels name are in the tree.

@@ -3,7 +3,6 @@
 
 pub mod head;
 pub mod labels;
-mod nodes;
 pub mod revocation;
 pub mod sending;
 mod words;

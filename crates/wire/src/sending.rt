@@ -9,7 +9,7 @@ ghost use Rattle.wire.specs.Entries.{entry_bytes};
 ghost use Rattle.wire.specs.Sending.{parts_in, sending_head, sending_size, all_inside, all_descend, sending_in, sending_faults, said_by_sending};
 
 use crate::head::{read_head, write_head};
-use crate::nodes::{first_place, is_in_tree};
+use crate::labels::{first_place, is_in_tree};
 use crate::words::{word_at, write_word};
 use fault::{Fault, lower_of};
 use tree::numbers::fault_in_number;

@@ -1,9 +1,15 @@
--- Of two, the one with the lower number; of less than two, what there is.
+-- That the lowest is among the faults and below each, at each return.
 use Rattle.fault.proofs.Lowest.{lowest_least}
 use Rattle.fault.proofs.lower_of.Goals as goal
 
-pub returns-in-Some : goal.returns-in-Some
-returns-in-Some c = record { lower = rw c.in-Some.is c.lower_than.ensures; least = lowest_least }
+pub returns-in_default-clause-least : goal.returns-in_default-clause-least
+returns-in_default-clause-least c = lowest_least
 
-pub returns-in-None : goal.returns-in-None
-returns-in-None c = record { lower = rw c.in-None.is; least = lowest_least }
+pub returns-in_default-b-clause-least : goal.returns-in_default-b-clause-least
+returns-in_default-b-clause-least c = lowest_least
+
+pub returns-then-is_at_most-clause-least : goal.returns-then-is_at_most-clause-least
+returns-then-is_at_most-clause-least c = lowest_least
+
+pub returns-else-is_at_most-clause-least : goal.returns-else-is_at_most-clause-least
+returns-else-is_at_most-clause-least c = lowest_least
