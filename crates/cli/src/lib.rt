@@ -3,6 +3,9 @@
 
 ghost use Rattle.std.specs.Prelude.{◌≡◌, if◌then◌else◌, is_ok};
 ghost use Rattle.std.specs.Process.{exit_status};
+ghost use Rattle.fault.specs.declared.Fault.{Fault};
+ghost use Rattle.fault.specs.declared.Refusal.TheVariants.{Faulty};
+ghost use Rattle.cli.specs.declared.Stop.TheVariants.{Refused};
 
 use anyhow::anyhow;
 use fault::{Fault, Refusal};
@@ -40,12 +43,16 @@ impl<T: Drop> From<AllocFailed<T>> for Stop {
 }
 
 impl From<Fault> for Stop {
+    ghost from_gives = { λ fault stop. stop ≡ Refused fault };
+
     fn from(fault: Fault) -> Stop {
         Stop::Refused(fault)
     }
 }
 
 impl From<Refusal> for Stop {
+    ghost from_gives = { λ refusal stop. (fault : Fault) → refusal ≡ Faulty fault → stop ≡ Refused fault };
+
     fn from(refusal: Refusal) -> Stop {
         match refusal {
             Refusal::Faulty(fault) => Stop::Refused(fault),
