@@ -30,11 +30,11 @@ length_words (suc n) s e =
     let l = length-drop 4 s in
     ap length (words_step s (omega arith)) ∙ ap suc (length_words n (drop 4 s) (omega arith))
 
-pub get_d_words : (i : ℕ) (s : List ℕ) → 4 * i + 4 ≤ length s → get_or (words s) i 0 ≡ word_at s (4 * i)
-get_d_words zero s h = ap (λ (l : List ℕ). get_or l 0 0) (words_step s (omega arith))
-get_d_words (suc i) s h =
+pub get_or_words : (i : ℕ) (s : List ℕ) → 4 * i + 4 ≤ length s → get_or (words s) i 0 ≡ word_at s (4 * i)
+get_or_words zero s h = ap (λ (l : List ℕ). get_or l 0 0) (words_step s (omega arith))
+get_or_words (suc i) s h =
     let l = length-drop 4 s in
-    ap (λ (l : List ℕ). get_or l (suc i) 0) (words_step s (omega arith)) ∙ get_d_words i (drop 4 s) (omega arith)
+    ap (λ (l : List ℕ). get_or l (suc i) 0) (words_step s (omega arith)) ∙ get_or_words i (drop 4 s) (omega arith)
     ∙ word_at_drop 4 s (4 * i) ∙ ap (word_at s) {x = 4 + 4 * i} {y = 4 * suc i} (omega arith)
 
 -- each of the bytes, or numbers, is below n

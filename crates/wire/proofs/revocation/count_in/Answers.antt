@@ -2,11 +2,11 @@
 use Rattle.std.proofs.Common.{◌≡◌, ℕ, ◌+◌, ◌*◌, ◌≤◌, List, length, get_or, drop, refl, ◌∙◌, arith, eq-eqb, ne_eqb}
 use Rattle.std.proofs.lemmas.List.{take_rest, length-drop}
 use Rattle.wire.specs.Words.{word_at, words}
-use Rattle.wire.proofs.Bytes.{length_words, get_d_words, word_at_drop}
+use Rattle.wire.proofs.Bytes.{length_words, get_or_words, word_at_drop}
 use Rattle.wire.proofs.revocation.count_in.Goals as goal
 
 first_word : (s : List ℕ) → 6 ≤ length s → get_or (words (drop 2 s)) 0 0 ≡ word_at s 2
-first_word s l = get_d_words 0 (drop 2 s) (rw length-drop (omega arith)) ∙ word_at_drop 2 s 0
+first_word s l = get_or_words 0 (drop 2 s) (rw length-drop (omega arith)) ∙ word_at_drop 2 s 0
 
 pub at-count-requires : goal.at-count-requires
 at-count-requires c =

@@ -1,7 +1,7 @@
 -- A number with a place among the numbers has four bytes.
 use Rattle.std.proofs.Common.{ℕ, ◌+◌, ◌*◌, ◌<◌, ◌≤◌, List, length, sym, refl, ◌∙◌, arith, rules}
 use Rattle.wire.specs.Words.{words}
-use Rattle.wire.proofs.Bytes.{length_words, get_d_words}
+use Rattle.wire.proofs.Bytes.{length_words, get_or_words}
 use Rattle.wire.proofs.words.WordsReceiverList.at.Goals as goal
 
 within : (s : List ℕ) (i : ℕ) → i < length (words s) → 4 * i + 4 ≤ length s
@@ -14,4 +14,4 @@ pub word_at-requires : goal.word_at-requires
 word_at-requires c = within c.args.self.now.bytes.now c.args.index c.requires
 
 pub returns : goal.returns
-returns c = c.word_at.ensures ∙ sym (get_d_words c.args.index c.args.self.now.bytes.now (within c.args.self.now.bytes.now c.args.index c.requires))
+returns c = c.word_at.ensures ∙ sym (get_or_words c.args.index c.args.self.now.bytes.now (within c.args.self.now.bytes.now c.args.index c.requires))
