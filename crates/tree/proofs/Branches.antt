@@ -3,15 +3,13 @@ use Rattle.std.proofs.Common.{◌≡◌, ℕ, suc, ◌+◌, ◌-◌, ◌*◌, �
 use Rattle.std.proofs.lemmas.List.{take_all, drop_all, length-take, length-drop}
 use Rattle.std.proofs.lemmas.Bool.{cond_both}
 use Rattle.tree.specs.declared.parts.Part.{Part}
-use Rattle.tree.specs.declared.cover.Branch.{Branch}
-use Rattle.tree.specs.declared.cover.Branch.TheVariants.{Named}
 use Rattle.tree.specs.declared.subtree.Subtree.{Subtree}
 use Rattle.tree.specs.Nodes.{first_below}
 use Rattle.tree.specs.Receivers.{Cut, all_below, rising_from}
 use Rattle.tree.specs.Parts.{part}
 use Rattle.tree.specs.Cover.{Work, clean, named, close, join, work}
 use Rattle.fault.specs.Memory.{over}
-use Rattle.tree.specs.Written.{closed, branch_of, count_of}
+use Rattle.tree.specs.Written.{closed}
 use Rattle.tree.proofs.Few.{Paid, close_few, work_paid}
 use Rattle.tree.proofs.Slices.{rising_take, rising_drop, below_take, below_drop, below_weaker}
 use Rattle.tree.proofs.Sides.{halves, work_cut, Beneath, Open, some_open, none_clean}
@@ -21,20 +19,11 @@ close_append : (side i : ℕ) (ps : List Part) → close side i ps ≡ close sid
 close_append side i ps =
     cond_both (eqb side i) ps (part side i ∷ ps) (λ (l : List Part). l ≡ cond (eqb side i) [] (part side i ∷ []) ++ ps) (λ e. rw e) (λ e. rw e)
 
-count_closed : (side : ℕ) (w : Work) → count_of (branch_of side w) ≡ length (closed side w)
-count_closed side clean = refl
-count_closed side (named j ps) = refl
-
 -- two sides that are not clean are closed one after the other, behind the part that closes what they are below
 pub fork_parts : (side i : ℕ) (a b : Work) → Open a → Open b → closed side (join i a b) ≡ close side i [] ++ (closed (2 * i) a ++ closed (2 * i + 1) b)
 fork_parts side i (named j ps) (named k qs) o p = close_append side i (close (2 * i) j ps ++ close (2 * i + 1) k qs)
 fork_parts side i clean b o p = absurd o
 fork_parts side i (named j ps) clean o p = absurd p
-
-pub fork_branch : (side i : ℕ) (a b : Work) → Open a → Open b → branch_of side (join i a b) ≡ Named i (length (closed side (join i a b)))
-fork_branch side i (named j ps) (named k qs) o p = refl
-fork_branch side i clean b o p = absurd o
-fork_branch side i (named j ps) clean o p = absurd p
 
 join_clean : (i : ℕ) (a : Work) → join i a clean ≡ a
 join_clean i clean = refl
@@ -114,9 +103,6 @@ module _ {h k i : ℕ} {xs : List ℕ} (b : Beneath h k i xs) where
           ≡ close side i [] ++ (closed (2 * i) (work h (take n xs) (k - 1) (2 * i)) ++ closed (2 * i + 1) (work h (drop n xs) (k - 1) (2 * i + 1)))
       parts side = ap (closed side) cut_work ∙ fork_parts side i _ _ open_left open_right
 
-      pub branch : (side : ℕ) → branch_of side (work h xs k i) ≡ Named i (length (closed side (work h xs k i)))
-      branch side = rw cut_work (fork_branch side i _ _ open_left open_right)
-
 -- a side of a node is told by three numbers, which the code hands on
 module _ {h k i h' k' i' : ℕ} (eh : h' ≡ h) (ek : k' ≡ k) (ei : i' ≡ i) where
   pub same_first : first_below h' k' i' ≡ first_below h k i
@@ -138,9 +124,8 @@ module _ {h k i h' k' i' : ℕ} (eh : h' ≡ h) (ek : k' ≡ k) (ei : i' ≡ i) 
       after ≡ over (closed i (work h xs k i)) memory
   same_written memory ex e = e ∙ ap (λ (ps : List Part). over ps memory) (same_closed ex)
 
-  pub same_count : {xs xs' : List ℕ} {branch : Branch} {count : ℕ} → xs' ≡ xs → branch ≡ branch_of i' (work h' xs' k' i') → count ≡ count_of branch →
-      count ≡ length (closed i (work h xs k i))
-  same_count {xs' = xs'} ex eb ec = ec ∙ ap count_of eb ∙ count_closed i' (work h' xs' k' i') ∙ ap length (same_closed ex)
+  pub same_count : {xs xs' : List ℕ} {count : ℕ} → xs' ≡ xs → count ≡ length (closed i' (work h' xs' k' i')) → count ≡ length (closed i (work h xs k i))
+  same_count ex e = e ∙ ap length (same_closed ex)
 
 pub beneath : (a : Subtree) (xs : List ℕ) → T (rising_from (first_below a.height a.levels a.node) xs) →
     T (all_below (first_below a.height a.levels a.node + 2 ^ a.levels) xs) → Beneath a.height a.levels a.node xs

@@ -1,7 +1,9 @@
 -- Rising receivers, by their places and in slices. Assumes nothing.
-use Rattle.std.proofs.Common.{ℕ, zero, suc, ◌<◌, ◌≤◌, T, ltb, leb, List, [], ◌∷◌, length, get_or, take, drop, inl, inr, arith}
-use Rattle.std.proofs.lemmas.Bool.{leb-true, le-leb, ltb-true, lt-ltb, cases_eq}
-use Rattle.tree.specs.Receivers.{all_below, rising_from, rising}
+use Rattle.std.proofs.Common.{◌≡◌, ℕ, zero, suc, ◌<◌, ◌≤◌, T, true, false, ltb, leb, List, [], ◌∷◌, length, get_or, take, drop, inl, inr, arith}
+use Rattle.std.proofs.lemmas.Bool.{leb-true, le-leb, ltb-true, ltb-false, lt-ltb, cases_eq}
+use Rattle.std.proofs.lemmas.List.{get_or_default}
+use Rattle.std.specs.List.Sorted.{IsPartitionPoint, IsPartitionedBy}
+use Rattle.tree.specs.Receivers.{Cut, all_below, rising_from, rising}
 use Rattle.tree.proofs.Tests.{T_both, both_T, T_true, true_T}
 
 from_first : (least : ℕ) (xs : List ℕ) (i : ℕ) → T (rising_from least xs) → i < length xs → least ≤ get_or xs i 0
@@ -71,3 +73,16 @@ below_weaker m n [] le b = tt
 below_weaker m n (x ∷ xs) le b =
     let p = T_both (ltb x m) (all_below m xs) b in
     both_T (ltb x n) (all_below n xs) (true_T (ltb x n) (lt-ltb x n (omega (arith, ltb-true x m (T_true (ltb x m) p.0))))) (below_weaker m n xs le p.1)
+
+-- rising receivers come to m once
+pub parted : (m : ℕ) (xs : List ℕ) → T (rising xs) → IsPartitionedBy (λ y. ltb y m) xs
+parted m xs r i j d l k e =
+    let at = in_order xs i j r l k in
+    lt-ltb (get_or xs i d) m (omega (arith, ltb-true (get_or xs j d) m e, get_or_default xs i d 0 (omega arith), get_or_default xs j d 0 k))
+
+pub cut_there : (m : ℕ) (xs : List ℕ) (n : ℕ) → IsPartitionPoint (λ y. ltb y m ≡ true) (λ y. ltb y m ≡ false) xs n → Cut xs n m
+cut_there m xs n p =
+    record {
+      before = λ j l. ltb-true (get_or xs j 0) m (p.0 j 0 (omega arith) l);
+      after = λ j l k. ltb-false (get_or xs j 0) m (p.1 j 0 l k);
+    }

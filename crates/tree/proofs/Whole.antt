@@ -1,32 +1,31 @@
 -- The cover of a whole tree: node 1 closed, or the part of all. Assumes nothing.
 use Rattle.std.proofs.Common.{◌≡◌, ℕ, zero, suc, ◌+◌, ◌-◌, ◌*◌, ◌<◌, ◌≤◌, true, leb, List, [], ◌∷◌, length, take, drop, set, None, Ok, sym, refl, ap, ◌∙◌, subst, one-mul, zero-add, arith, length-append}
-use Rattle.std.proofs.lemmas.List.{take_at}
+use Rattle.std.proofs.lemmas.List.{nil_from_length, take_at}
 use Rattle.std.proofs.lemmas.Bool.{leb-true}
 use Rattle.fault.specs.Lowest.{lowest}
 use Rattle.tree.specs.declared.parts.Part.{Part}
-use Rattle.tree.specs.declared.cover.Branch.TheVariants.{Clean, Named}
 use Rattle.tree.specs.Nodes.{first_below}
 use Rattle.tree.specs.Receivers.{list_faults}
 use Rattle.tree.specs.Parts.{part}
 use Rattle.tree.specs.Cover.{Work, clean, named, finish, cover}
 use Rattle.tree.specs.Promise.{most, Covers}
 use Rattle.fault.specs.Memory.{over}
-use Rattle.tree.specs.Written.{closed, branch_of, cover_answer}
+use Rattle.tree.specs.Written.{closed, cover_answer}
 use Rattle.tree.proofs.Judged.{sound}
-use Rattle.tree.proofs.Sides.{Beneath}
+use Rattle.tree.proofs.Sides.{Beneath, Open, none_clean}
 use Rattle.tree.proofs.Few.{most_one}
 use Rattle.tree.proofs.Covers.{covers}
 
-pub top_clean : (w : Work) (memory after : List Part) → 0 < length memory → Clean ≡ branch_of 1 w → after ≡ over (closed 1 w) memory →
-    (1 ≡ length (finish w)) × (set after 0 (part 0 0) ≡ over (finish w) memory)
-top_clean clean [] after l e a = absurd (omega arith)
-top_clean clean (m ∷ ms) after l e a = (refl, rw a)
-top_clean (named j ps) memory after l e a = absurd (let z : ◌≡◌ {A = ℕ} 0 1 = cc in omega arith)
+-- nobody is revoked, and the one part of all is written
+pub top_clean : (h : ℕ) (rs : List ℕ) (memory : List Part) → 0 < length memory → length rs ≡ 0 →
+    (1 ≡ length (cover h rs)) × (set memory 0 (part 0 0) ≡ over (cover h rs) memory)
+top_clean h rs [] l e = absurd (omega arith)
+top_clean h rs (m ∷ ms) l e = rw (nil_from_length rs e, none_clean h h 1) (refl, refl)
 
-pub top_named : (w : Work) (memory after : List Part) (j n : ℕ) → Named j n ≡ branch_of 1 w → after ≡ over (closed 1 w) memory →
-    (n ≡ length (finish w)) × (after ≡ over (finish w) memory)
-top_named clean memory after j n e a = absurd (let z : ◌≡◌ {A = ℕ} 0 1 = cc in omega arith)
-top_named (named k ps) memory after j n e a = (cc, a)
+-- somebody is, and node 1 is closed
+pub top_named : (w : Work) → Open w → closed 1 w ≡ finish w
+top_named clean o = absurd o
+top_named (named j ps) o = refl
 
 room_most : (r room : ℕ) → most r ≤ room → 2 * r ≤ room + 1
 room_most zero room l = omega arith

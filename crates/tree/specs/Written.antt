@@ -4,8 +4,6 @@ use Rattle.fault.specs.declared.Refusal.{Refusal}
 use Rattle.fault.specs.Lowest.{lowest}
 use Rattle.fault.specs.Memory.{fitted}
 use Rattle.tree.specs.declared.parts.Part.{Part}
-use Rattle.tree.specs.declared.cover.Branch.{Branch}
-use Rattle.tree.specs.declared.cover.Branch.TheVariants.{Clean, Named}
 use Rattle.tree.specs.Receivers.{list_faults}
 use Rattle.tree.specs.Cover.{Work, clean, named, close, cover}
 use Rattle.tree.specs.Promise.{most}
@@ -14,15 +12,6 @@ use Rattle.tree.specs.Promise.{most}
 abbrev pub closed : ℕ → Work → List Part
 closed side clean = []
 closed side (named j ps) = close side j ps
-
--- what is known below a node, with the parts of the closed side counted
-abbrev pub branch_of : ℕ → Work → Branch
-branch_of side clean = Clean
-branch_of side (named j ps) = Named j (length (close side j ps))
-
-abbrev pub count_of : Branch → ℕ
-count_of Clean = 0
-count_of (Named j n) = n
 
 -- how many parts there are, where the list has no fault and there is room for the most that so many can make
 abbrev pub cover_answer : ℕ → List ℕ → ℕ → Result ℕ Refusal

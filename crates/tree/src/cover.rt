@@ -1,7 +1,7 @@
 //! The cover: parts that make up all receivers but the revoked. It is made by walking down only where somebody is revoked, so that its work
 //! grows with the number of revoked times the height. Assumes nothing.
 ghost use Rattle.std.specs.Prelude.{◌≡◌, ◌+◌, ◌-◌, ◌*◌, ◌^◌, ◌<◌, ◌≤◌, T, [], length, take, IfOk, nat_le};
-ghost use Rattle.tree.specs.Written.{closed, branch_of, count_of, cover_answer};
+ghost use Rattle.tree.specs.Written.{closed, cover_answer};
 ghost use Rattle.fault.specs.Memory.{over, afterwards};
 ghost use Rattle.tree.specs.Nodes.{first_below};
 ghost use Rattle.tree.specs.Receivers.{Cut, all_below, rising_from, rising};
@@ -13,43 +13,13 @@ use crate::receivers::{ReceiverList, fault_in};
 use crate::subtree::Subtree;
 use fault::Refusal;
 
-/// What is known below a node. The parts made there stand in lent memory.
-#[derive(Clone, Copy)]
-enum Branch {
-    /// Nobody is revoked there.
-    Clean,
-    /// Somebody is: the named node, and how many parts were written for the side that is closed there.
-    Named(u32, usize),
-}
-
-impl Branch {
-    fn count(self) -> usize
-        ensures { result ≡ count_of self }
-    {
-        match self {
-            Branch::Clean => 0,
-            Branch::Named(_, count) => count,
-        }
-    }
-}
-
 /// How many of the rising receivers come before `middle`.
 fn count_before(receivers: &[u32], middle: u32) -> usize
     requires { T (rising receivers.now) }
     ensures within { result ≤ length receivers.now }
     ensures cut { Cut receivers.now result middle }
 {
-    let mut low = 0;
-    let mut high = receivers.len();
-    while low < high {
-        let at = low + (high - low) / 2;
-        if receivers[at] < middle {
-            low = at + 1;
-        } else {
-            high = at;
-        }
-    }
-    low
+    receivers.partition_point(|receiver| *receiver < middle)
 }
 
 /// How many of the rising receivers are on the left side of a node that is not at the bottom.
@@ -79,19 +49,19 @@ fn close_side(side: u32, node: u32, free: &mut [Part]) -> usize
 }
 
 /// Covers the receivers below `at` that are not revoked, for the `side` that is to be closed where a node is named. Its parts go to the front of
-/// the free memory.
-fn cover_branch(at: Subtree, side: u32, revoked: &[u32], free: &mut [Part]) -> Branch
+/// the free memory; it answers how many they are.
+fn cover_branch(at: Subtree, side: u32, revoked: &[u32], free: &mut [Part]) -> usize
     requires rising { T (rising_from (first_below at.height at.levels at.node) revoked.now) }
     requires below { T (all_below (first_below at.height at.levels at.node + 2 ^ at.levels) revoked.now) }
     requires room { 2 * length revoked.now ≤ length free.old + 1 }
     ensures wrote { free.new ≡ over (closed side (work at.height revoked.now at.levels at.node)) free.old }
-    ensures known { result ≡ branch_of side (work at.height revoked.now at.levels at.node) }
+    ensures count { result ≡ length (closed side (work at.height revoked.now at.levels at.node)) }
 {
     if revoked.is_empty() {
-        return Branch::Clean;
+        return 0;
     }
     if at.levels == 0 {
-        return Branch::Named(at.node, close_side(side, at.node, free));
+        return close_side(side, at.node, free);
     }
     let split = count_left(at, revoked);
     let left = at.left();
@@ -104,9 +74,9 @@ fn cover_branch(at: Subtree, side: u32, revoked: &[u32], free: &mut [Part]) -> B
     }
     let closing = close_side(side, at.node, free);
     let on_left = cover_branch(left, left.node, &revoked[0..split], &mut free[closing..]);
-    let used = closing + on_left.count();
+    let used = closing + on_left;
     let on_right = cover_branch(right, right.node, &revoked[split..], &mut free[used..]);
-    Branch::Named(at.node, used + on_right.count())
+    used + on_right
 }
 
 /// Whether there is room for the most parts that so many revoked can make.
@@ -124,16 +94,14 @@ pub fn cover(height: u8, revoked: &[u32], out: &mut [Part]) -> Result<usize, Ref
     ensures covers { IfOk result (λ n. Covers height revoked.now (take n out.new)) }
 {
     if let Some(fault) = fault_in(height, &revoked) {
-        return Err(Refusal::Faulty(fault));
+        return Err(fault.into());
     }
     if !has_room(revoked.len(), out.len()) {
         return Err(Refusal::NoRoom);
     }
-    match cover_branch(Subtree::whole(height), 1, revoked, out) {
-        Branch::Clean => {
-            out[0] = Part::ALL;
-            Ok(1)
-        }
-        Branch::Named(_, count) => Ok(count),
+    if revoked.is_empty() {
+        out[0] = Part::ALL;
+        return Ok(1);
     }
+    Ok(cover_branch(Subtree::whole(height), 1, revoked, out))
 }

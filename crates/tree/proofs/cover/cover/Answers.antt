@@ -1,4 +1,11 @@
--- The whole tree is a branch that is closed at node 1.
+-- Nobody is revoked and one part is written; or the whole tree is a branch that is closed at node 1.
+use Rattle.std.proofs.Common.{◌≡◌, ℕ, List, length, sym, ap, ◌∙◌, arith, rules, eqb-true}
+use borrow.Author.Tests.{eqb-false}
+use Rattle.tree.specs.declared.parts.Part.{Part}
+use Rattle.tree.specs.Cover.{work, cover}
+use Rattle.tree.specs.Written.{closed}
+use Rattle.fault.specs.Memory.{over}
+use Rattle.tree.proofs.Sides.{some_open}
 use Rattle.tree.proofs.Branches.{same_work, same_rise, same_low}
 use Rattle.tree.proofs.Whole.{room, some_room, beneath_top, top_clean, top_named, answered, within, covered}
 use Rattle.tree.proofs.cover.cover.Goals as goal
@@ -15,17 +22,14 @@ cover_branch-requires c =
       room = room c.args.height c.args.revoked.now c.args.out.now none enough;
     }
 
-pub returns-in-Clean : goal.returns-in-Clean
-returns-in-Clean c =
+pub returns-then-is_empty : goal.returns-then-is_empty
+returns-then-is_empty c =
     let h = c.args.height in
     let rs = c.args.revoked.now in
     let memory = c.args.out.now in
     let none = c.in_default.ensures in
     let enough = c.if-not-has_room.ensures in
-    let w = c.whole.ensures in
-    let same = same_work w.height w.levels w.node rs in
-    let top = rw same at c.in-Clean.ensures in
-    let done = top_clean _ memory _ (some_room h rs memory none enough) top.known top.wrote in
+    let done = top_clean h rs memory (some_room h rs memory none enough) (eqb-true (length rs) 0 (sym c.if-is_empty.ensures)) in
     record {
       answer = answered h rs memory none enough _ done.0;
       memory = done.1;
@@ -33,20 +37,21 @@ returns-in-Clean c =
       covers = covered h rs memory none enough _ _ done.0 done.1;
     }
 
-pub returns-in-Named : goal.returns-in-Named
-returns-in-Named c =
+pub returns : goal.returns
+returns c =
     let h = c.args.height in
     let rs = c.args.revoked.now in
     let memory = c.args.out.now in
     let none = c.in_default.ensures in
     let enough = c.if-not-has_room.ensures in
     let w = c.whole.ensures in
-    let same = same_work w.height w.levels w.node rs in
-    let top = rw same at c.in-Named.ensures in
-    let done = top_named _ memory _ _ _ top.known top.wrote in
+    let some = some_open rs (beneath_top h rs memory none enough) (omega (arith, eqb-false (length rs) 0 (sym c.if-is_empty.ensures))) in
+    let same = ap (closed 1) (same_work w.height w.levels w.node rs) ∙ top_named (work h rs h 1) some in
+    let count : c.cover_branch.result ≡ length (cover h rs) = c.cover_branch.ensures.count ∙ ap length same in
+    let wrote : c.cover_branch.new.free ≡ over (cover h rs) memory = c.cover_branch.ensures.wrote ∙ ap (λ (ps : List Part). over ps memory) same in
     record {
-      answer = answered h rs memory none enough _ done.0;
-      memory = done.1;
-      within = within h rs memory none enough _ _ done.0 done.1;
-      covers = covered h rs memory none enough _ _ done.0 done.1;
+      answer = answered h rs memory none enough _ count;
+      memory = wrote;
+      within = within h rs memory none enough _ _ count wrote;
+      covers = covered h rs memory none enough _ _ count wrote;
     }
