@@ -28,7 +28,7 @@ lowest_least [] = refl
 lowest_least (f ∷ fs) = least_cons f fs (lowest fs) (lowest_least fs)
 
 -- Of three faults, the lowest is the same in whatever pairs they are compared.
-lower_assoc : (a b c : Option Fault) → lower (lower a b) c ≡ lower a (lower b c)
+pub lower_assoc : (a b c : Option Fault) → lower (lower a b) c ≡ lower a (lower b c)
 lower_assoc None b c = refl
 lower_assoc (Some f) None c = refl
 lower_assoc (Some f) (Some g) None = cond_both (leb (number_of f) (number_of g)) (Some f) (Some g) (λ (o : Option Fault). lower o None ≡ o) (λ _. refl) (λ _. refl)

@@ -8,6 +8,7 @@ ghost use Rattle.tree.specs.Receivers.{Cut, all_below, rising_from, rising};
 ghost use Rattle.tree.specs.Cover.{close, work, cover};
 ghost use Rattle.tree.specs.Promise.{most, Covers};
 
+use crate::heights::Height;
 use crate::parts::Part;
 use crate::receivers::{ReceiverList, fault_in};
 use crate::subtree::Subtree;
@@ -96,6 +97,7 @@ pub fn cover(height: u8, revoked: &[u32], out: &mut [Part]) -> Result<usize, Ref
     if let Some(fault) = fault_in(height, &revoked) {
         return Err(fault.into());
     }
+    let height = Height::try_from(height)?;
     if !has_room(revoked.len(), out.len()) {
         return Err(Refusal::NoRoom);
     }

@@ -4,6 +4,7 @@
 ghost use Rattle.tree.specs.Promise.{CoverCovers, Worked};
 
 pub mod cover;
+pub mod heights;
 pub mod nodes;
 pub mod numbers;
 pub mod parts;

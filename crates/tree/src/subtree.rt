@@ -1,6 +1,8 @@
 //! A node with all that is below it. Assumes nothing.
 ghost use Rattle.std.specs.Prelude.{◌≡◌, ◌+◌, ◌-◌, ◌*◌, ◌<◌, ◌≤◌};
-ghost use Rattle.tree.specs.Nodes.{max_height, Stands, first_below};
+ghost use Rattle.tree.specs.Nodes.{Stands, first_below};
+
+use crate::heights::Height;
 
 /// A node of a tree of some height, with the number of levels below it.
 #[derive(Clone, Copy)]
@@ -13,15 +15,14 @@ pub struct Subtree {
 
 impl Subtree {
     /// The whole of a tree.
-    pub fn whole(height: u8) -> Subtree
-        requires { height ≤ max_height }
-        ensures height { result.height ≡ height }
-        ensures levels { result.levels ≡ height }
+    pub fn whole(height: Height) -> Subtree
+        ensures height { result.height ≡ height.levels }
+        ensures levels { result.levels ≡ height.levels }
         ensures node { result.node ≡ 1 }
     {
         Subtree {
-            height,
-            levels: height,
+            height: height.levels,
+            levels: height.levels,
             node: 1,
         }
     }

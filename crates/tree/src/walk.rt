@@ -1,19 +1,13 @@
 //! Walking a receiver's way up the tree, from one node that hangs off it to the next. Assumes nothing.
-ghost use Rattle.std.specs.Prelude.{◌≡◌, ◌^◌, ◌<◌, ◌&&◌, [], ◌∷◌, is_some, IfSome, Some, None, MatchOption, nat_lt};
+ghost use Rattle.std.specs.Prelude.{◌≡◌, ◌^◌, ◌<◌, ◌&&◌, [], is_some, IfSome, Some, None, MatchOption, nat_lt};
 ghost use Rattle.tree.specs.Receivers.{is_height};
-ghost use Rattle.tree.specs.Ways.{sibling, way};
+ghost use Rattle.std.specs.Iterator.{YieldsFirst, item_count};
+ghost use Rattle.tree.specs.Ways.{way};
 ghost use Rattle.tree.specs.Walks.{left_of};
 
-use crate::nodes::leaf_of;
+use crate::nodes::{leaf_of, sibling_of};
 use crate::parts::Part;
 use crate::way::Way;
-
-/// The other node below the same one.
-pub fn sibling_of(node: u32) -> u32
-    ensures { result ≡ sibling node }
-{
-    if node % 2 == 0 { node + 1 } else { node - 1 }
-}
 
 impl Way {
     /// The way of a receiver, if the tree has it.
@@ -52,26 +46,24 @@ impl Way {
             above: self.above - 1,
         })
     }
+}
 
-    /// The next node that hangs off the way, under a node on it; and what is left then.
-    pub fn next(self) -> Option<(Part, Way)>
-        ensures { MatchOption result (left_of self ≡ []) (λ n. left_of self ≡ n.0 ∷ left_of n.1) }
-    {
-        let Some(at) = self.climbed() else {
-            return None;
-        };
+/// The nodes that hang off the way, each as a part under a node on it.
+impl Iterator for Way {
+    type Item = Part;
+
+    ghost next_gives = { YieldsFirst left_of };
+
+    ghost remaining = { item_count left_of };
+
+    fn next(&mut self) -> Option<Part> {
+        *self = self.climbed()?;
         let part = Part {
-            first: at.first,
-            second: sibling_of(at.node),
+            first: self.first,
+            second: sibling_of(self.node),
         };
-        let rest = Way {
-            leaf: at.leaf,
-            first: at.first,
-            steps: at.steps,
-            node: at.node / 2,
-            hanging: at.hanging - 1,
-            above: at.above,
-        };
-        Some((part, rest))
+        self.node /= 2;
+        self.hanging -= 1;
+        Some(part)
     }
 }
