@@ -1,5 +1,5 @@
 -- A label file is read back as it was written. Assumes nothing.
-use Rattle.std.proofs.Common.{◌≡◌, ℕ, zero, suc, ◌+◌, ◌*◌, ◌/◌, ◌^◌, ◌<◌, ◌≤◌, true, ◌&&◌, ltb, leb, List, [], ◌∷◌, ◌++◌, length, drop, refl, ap, ◌∙◌, subst, pow-suc, arith, length-append, pow_pos, pow_mono}
+use Rattle.std.proofs.Common.{◌≡◌, ℕ, zero, suc, ◌+◌, ◌*◌, ◌/◌, ◌^◌, ◌<◌, ◌≤◌, true, ◌&&◌, ltb, leb, List, [], ◌∷◌, ◌++◌, length, drop, refl, ap, subst, pow-suc, arith, length-append, pow_pos, pow_mono}
 use Rattle.std.proofs.lemmas.List.{take_at, drop_at}
 use Rattle.std.proofs.lemmas.Bool.{and_from, and_parts, eq-eqb, lt-ltb, le-ltb, leb-true}
 use Rattle.tree.specs.declared.parts.Part.{Part}
@@ -8,8 +8,8 @@ use Rattle.tree.specs.Receivers.{is_height}
 use Rattle.tree.specs.Ways.{sibling, hanging, above, way}
 use Rattle.tree.proofs.Hanging.{sibling_half, way_count}
 use Rattle.wire.specs.Words.{word_at}
-use Rattle.wire.specs.Entries.{Wide, entry_places, placed}
-use Rattle.wire.specs.Labels.{places_of, all_in_tree, same_places, labels_size, labels_bytes, ReadsAsHeld}
+use Rattle.wire.specs.Entries.{Wide, placed}
+use Rattle.wire.specs.Labels.{all_in_tree, same_places, labels_size, labels_bytes, ReadsAsHeld}
 use Rattle.wire.proofs.Bytes.{word_of_bytes}
 use Rattle.wire.proofs.Entries.{Narrow, narrow_in, length_placed, bodies_placed, places_placed}
 
@@ -17,12 +17,6 @@ same_places_lem : (ps : List Part) → same_places ps ps ≡ true
 unfolding same_places
 same_places_lem [] = refl
 same_places_lem (p ∷ ps) = rw (eq-eqb p.first p.first refl, eq-eqb p.second p.second refl, same_places_lem ps)
-
--- labels with their places are entries of 40 bytes
-places_alike : (n : ℕ) (s : List ℕ) → places_of n s ≡ entry_places 40 n s
-unfolding places_of entry_places
-places_alike zero s = refl
-places_alike (suc n) s = rw (places_alike n (drop 40 s))
 
 -- all that hangs off a way is in the tree
 
@@ -90,7 +84,7 @@ module _ (h u : ℕ) (start : List ℕ) (labels : List (List ℕ)) (height : is_
 
   pub reads_as_held : ReadsAsHeld file h u (start ∷ labels)
   reads_as_held =
-      let way-all = places_alike (length (way h u)) (placed (way h u) labels) ∙ places_placed 32 (way h u) labels all wide (narrow h (way h u) (is_height_low h height) (way_in h u low)) in
+      let way-all = places_placed 32 (way h u) labels all wide (narrow h (way h u) (is_height_low h height) (way_in h u low)) in
       let count : length (placed (way h u) labels) / 40 ≡ length (way h u) = omega (arith, length_placed 32 (way h u) labels all wide) in
       let long = le-ltb (length file) 2 (omega (arith, length_file)) in
       let size = eq-eqb (length file) (labels_size h) length_file in

@@ -1,10 +1,10 @@
 -- What the proofs of the functions share, and what those of other crates may cite.
 pub mod Bytes
+pub mod Stepping
+pub mod Tested
 mod Listed
 mod Inverse
-mod Places
 mod Labelled
-mod Headers
 mod Gathered
 pub mod Entries
 pub mod Held

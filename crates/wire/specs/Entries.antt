@@ -1,5 +1,5 @@
 -- Entries of one size, each two nodes and then a body: labels with their places, and the headers of a sending. Assumes nothing.
-use Rattle.std.specs.Prelude.{◌≡◌, ℕ, zero, suc, ◌-◌, List, [], ◌∷◌, ◌++◌, length, take, drop}
+use Rattle.std.specs.Prelude.{◌≡◌, ℕ, zero, suc, ◌-◌, ◌/◌, List, [], ◌∷◌, ◌++◌, length, take, drop}
 use Rattle.tree.specs.declared.parts.Part.{Part}
 use Rattle.tree.specs.Parts.{part}
 use Rattle.wire.specs.Words.{bytes4, word_at}
@@ -12,6 +12,10 @@ first_place s = part (word_at s 0) (word_at s 4)
 unfoldable pub entry_places : ℕ → ℕ → List ℕ → List Part
 entry_places size zero s = []
 entry_places size (suc n) s = first_place s ∷ entry_places size n (drop size s)
+
+-- the nodes of all entries of this size that bytes have
+abbrev pub places_in : ℕ → List ℕ → List Part
+places_in size s = entry_places size (length s / size) s
 
 -- the bodies of n entries of this size
 unfoldable pub bodies_of : ℕ → ℕ → List ℕ → List (List ℕ)

@@ -1,5 +1,5 @@
 -- A receiver's labels as a file. Assumes nothing.
-use Rattle.std.specs.Prelude.{◌≡◌, ℕ, zero, suc, ◌+◌, ◌*◌, ◌/◌, ◌^◌, Bool, true, false, not, ◌&&◌, ◌||◌, List, [], ◌∷◌, ◌++◌, length, take, drop, Ok, Err, Result, ◌==◌, nat_lt, slice_index}
+use Rattle.std.specs.Prelude.{◌≡◌, ℕ, ◌+◌, ◌*◌, ◌/◌, ◌^◌, Bool, true, false, not, ◌&&◌, ◌||◌, List, [], ◌∷◌, ◌++◌, length, take, drop, Ok, Err, Result, ◌==◌, nat_lt, slice_index}
 use Rattle.fault.specs.declared.Fault.{Fault}
 use Rattle.fault.specs.declared.Fault.TheVariants.{Malformed, OutOfRange, WrongLabels}
 use Rattle.fault.specs.Lowest.{when}
@@ -8,7 +8,7 @@ use Rattle.tree.specs.Nodes.{in_tree}
 use Rattle.tree.specs.Ways.{way}
 use Rattle.wire.specs.declared.labels.Labels.{Labels}
 use Rattle.wire.specs.Words.{bytes4, word_at}
-use Rattle.wire.specs.Entries.{first_place, bodies_of, placed}
+use Rattle.wire.specs.Entries.{places_in, bodies_of, placed}
 use Rattle.wire.specs.Head.{or_else, head_faults}
 
 -- what a label file says: the height, the receiver, the start of 0, and the bytes of the other labels with their places
@@ -18,13 +18,9 @@ pub record LabelFile : Type 0 where
   pub start : List ℕ
   pub entries : List ℕ
 
--- the places of n labels, of which each with its place has 40 bytes: the node under which it is, and its own
-unfoldable pub places_of : ℕ → List ℕ → List Part
-places_of zero s = []
-places_of (suc n) s = first_place s ∷ places_of n (drop 40 s)
-
+-- the places of labels, of which each with its place has 40 bytes: the node under which it is, and its own
 abbrev pub places : List ℕ → List Part
-places entries = places_of (length entries / 40) entries
+places entries = places_in 40 entries
 
 unfoldable pub all_in_tree : ℕ → List Part → Bool
 all_in_tree h [] = true

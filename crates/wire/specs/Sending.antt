@@ -10,7 +10,7 @@ use Rattle.tree.specs.Parts.{is_all, descends}
 use Rattle.wire.specs.declared.sending.Sending.{Sending}
 use Rattle.wire.specs.Words.{bytes4, word_at}
 use Rattle.wire.specs.Head.{or_else, head_faults}
-use Rattle.wire.specs.Entries.{entry_places, bodies_of, placed}
+use Rattle.wire.specs.Entries.{places_in, bodies_of, placed}
 
 -- what a sending says: the height, the number, and the bytes of its headers
 pub record SendingFile : Type 0 where
@@ -20,7 +20,7 @@ pub record SendingFile : Type 0 where
 
 -- the parts of headers, of which each has 56 bytes with its part, and the 48 bytes of each
 abbrev pub parts_in : List ℕ → List Part
-parts_in headers = entry_places 56 (length headers / 56) headers
+parts_in headers = places_in 56 headers
 
 abbrev pub covered_in : List ℕ → List (List ℕ)
 covered_in headers = bodies_of 56 (length headers / 56) headers

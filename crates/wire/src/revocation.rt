@@ -5,15 +5,13 @@ ghost use Rattle.fault.specs.Memory.{afterwards, over};
 ghost use Rattle.wire.specs.Words.{words};
 ghost use Rattle.wire.specs.Revocation.{max_revoked, named_faults, count_in, revoked_in, revocation_bytes, revocation_faults, revocation_in, write_answer, ReadsAs};
 
-use crate::head::{read_head, write_head};
-use crate::words::{Words, write_word, write_words};
+use crate::head::{Kind, read_height, write_head};
+use crate::words::{Words, word_at, write_word, write_words};
 use fault::{Fault, Refusal, lower_of};
 use tree::receivers::{ReceiverList, fault_in};
 
 /// A list names at most so many revoked receivers.
 pub const MAX_REVOKED: usize = 4096;
-
-const KIND: u8 = 1;
 
 /// What a revocation list says besides its receivers.
 #[derive(Clone, Copy)]
@@ -30,19 +28,13 @@ fn size_of_list(count: usize) -> usize
     4 * count + 6
 }
 
-fn is_too_many(count: usize) -> bool
-    ensures { result ≡ nat_lt max_revoked count }
-{
-    count > MAX_REVOKED
-}
-
 /// The lowest fault of receivers that a list names.
 fn fault_in_named<L: ReceiverList>(height: u8, receivers: &L) -> Option<Fault>
     ensures { result ≡ lowest (named_faults height (L.list receivers.now)) }
 {
     lower_of(
         fault_in(height, receivers),
-        Fault::TooManyRevoked.when(is_too_many(receivers.count())),
+        Fault::TooManyRevoked.when(receivers.count() > MAX_REVOKED),
     )
 }
 
@@ -53,12 +45,8 @@ fn count_in(bytes: &[u8]) -> Option<usize>
     if bytes.len() < 6 {
         return None;
     }
-    let count = Words { bytes: &bytes[2..] }.at(0) as usize;
-    if bytes.len() == size_of_list(count) {
-        Some(count)
-    } else {
-        None
-    }
+    let count = word_at(bytes, 2) as usize;
+    (bytes.len() == size_of_list(count)).then_some(count)
 }
 
 /// Copies receivers to the front of lent memory.
@@ -66,6 +54,7 @@ fn copy_words(from: Words, to: &mut [u32; MAX_REVOKED])
     requires { length (words from.bytes.now) ≤ max_revoked }
     ensures { to.new ≡ over (words from.entry.bytes.now) to.old }
 {
+    // A list is known by its count and places wherever it is kept, so it is gone through by them.
     for i in 0..from.count() {
         to[i] = from.at(i);
     }
@@ -80,16 +69,19 @@ pub fn read_revocation(
     ensures memory { receivers.new ≡ afterwards result (revoked_in bytes.now) receivers.old }
     ensures exact { IfOk result (λ v. bytes.now ≡ revocation_bytes v.height (revoked_in bytes.now)) }
 {
-    let height = read_head(KIND, bytes)?;
+    let height = read_height(Kind::Revocation, bytes)?;
     let Some(count) = count_in(bytes) else {
         return Err(Fault::Malformed);
     };
     let words = Words { bytes: &bytes[6..] };
-    if let Some(fault) = fault_in_named(height, &words) {
+    if let Some(fault) = fault_in_named(height.levels, &words) {
         return Err(fault);
     }
     copy_words(words, receivers);
-    Ok(Revocation { height, count })
+    Ok(Revocation {
+        height: height.levels,
+        count,
+    })
 }
 
 /// Writes a revocation list to the front of the lent memory, and answers how many bytes it has. A refusal leaves the memory as it was.
@@ -99,13 +91,13 @@ pub fn write_revocation(height: u8, receivers: &[u32], out: &mut [u8]) -> Result
     ensures read_back { IfOk result (λ n. ReadsAs (take n out.new) height receivers.now) }
 {
     if let Some(fault) = fault_in_named(height, &receivers) {
-        return Err(Refusal::Faulty(fault));
+        return Err(fault.into());
     }
     let size = size_of_list(receivers.len());
     if out.len() < size {
         return Err(Refusal::NoRoom);
     }
-    write_head(KIND, height, out);
+    write_head(Kind::Revocation, height, out);
     write_word(receivers.len() as u32, &mut out[2..]);
     write_words(receivers, &mut out[6..]);
     Ok(size)

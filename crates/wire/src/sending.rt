@@ -8,14 +8,14 @@ ghost use Rattle.wire.specs.Words.{word_at};
 ghost use Rattle.wire.specs.Entries.{entry_bytes};
 ghost use Rattle.wire.specs.Sending.{parts_in, sending_head, sending_size, all_inside, all_descend, sending_in, sending_faults, said_by_sending};
 
-use crate::head::{read_head, write_head};
-use crate::labels::{first_place, is_in_tree};
+use crate::entry::entry;
+use crate::head::{Kind, read_height, write_head};
+use crate::places::Places;
 use crate::words::{word_at, write_word};
 use fault::{Fault, lower_of};
+use tree::heights::Height;
 use tree::numbers::fault_in_number;
 use tree::parts::Part;
-
-const KIND: u8 = 3;
 
 /// The bytes before the first header.
 pub const HEAD: usize = 10;
@@ -43,7 +43,7 @@ pub fn head_bytes(height: u8, number: u32, count: u32) -> [u8; HEAD]
     ensures { result ≡ sending_head height number count }
 {
     let mut bytes = [0; HEAD];
-    write_head(KIND, height, &mut bytes);
+    write_head(Kind::Sending, height, &mut bytes);
     write_word(number, &mut bytes[2..]);
     write_word(count, &mut bytes[6..]);
     bytes
@@ -53,11 +53,7 @@ pub fn head_bytes(height: u8, number: u32, count: u32) -> [u8; HEAD]
 pub fn header_bytes(part: Part, covered: [u8; 48]) -> [u8; HEADER]
     ensures { result ≡ entry_bytes part covered }
 {
-    let mut bytes = [0; HEADER];
-    write_word(part.first, &mut bytes);
-    write_word(part.second, &mut bytes[4..]);
-    bytes[8..].copy_from_slice(&covered);
-    bytes
+    entry(part, covered)
 }
 
 /// Whether a sending has as many headers as it says.
@@ -67,18 +63,11 @@ fn is_whole(bytes: &[u8]) -> bool
     bytes.len() >= HEAD && bytes.len() == size_of_sending(word_at(bytes, 6))
 }
 
-fn is_all(part: Part) -> bool
-    ensures { result ≡ is_all part }
-{
-    part.first == 0 && part.second == 0
-}
-
 /// Whether both nodes of a part are in the tree, or it is the part of all receivers.
-fn is_inside(height: u8, part: Part) -> bool
-    requires { height ≤ max_height }
-    ensures { result ≡ (is_all part || (in_tree height part.first && in_tree height part.second)) }
+fn is_inside(height: Height, part: Part) -> bool
+    ensures { result ≡ (is_all part || (in_tree height.levels part.first && in_tree height.levels part.second)) }
 {
-    is_all(part) || is_in_tree(height, part.first) && is_in_tree(height, part.second)
+    part == Part::ALL || height.has_node(part.first) && height.has_node(part.second)
 }
 
 /// Whether a node is at or below another, at most `height` steps down.
@@ -99,23 +88,17 @@ fn is_below(height: u8, above: u32, node: u32) -> bool
 fn is_descending(height: u8, part: Part) -> bool
     ensures { result ≡ (is_all part || descends height part) }
 {
-    is_all(part) || is_below(height, part.first, part.second) && part.first != part.second
+    part == Part::ALL || is_below(height, part.first, part.second) && part.first != part.second
 }
 
 /// The lowest fault of the parts that headers name.
-fn fault_in_parts(height: u8, headers: &[u8]) -> Option<Fault>
-    requires { (height ≤ max_height) × (length headers.now % 56 ≡ 0) }
-    ensures { result ≡ lowest (when (not (all_inside height (parts_in headers.now))) OutOfRange ++ when (not (all_descend height (parts_in headers.now))) ImproperPart) }
+fn fault_in_parts(height: Height, headers: &[u8]) -> Option<Fault>
+    ensures { result ≡ lowest (when (not (all_inside height.levels (parts_in headers.now))) OutOfRange ++ when (not (all_descend height.levels (parts_in headers.now))) ImproperPart) }
 {
-    let mut rest = headers;
-    let mut inside = true;
-    let mut descending = true;
-    while rest.len() > 0 {
-        let part = first_place(rest);
-        inside &= is_inside(height, part);
-        descending &= is_descending(height, part);
-        rest = &rest[HEADER..];
-    }
+    let mut parts = Places::<HEADER> { entries: headers };
+    let inside = parts.all(|part| is_inside(height, part));
+    let mut parts = Places::<HEADER> { entries: headers };
+    let descending = parts.all(|part| is_descending(height.levels, part));
     lower_of(
         Fault::OutOfRange.when(!inside),
         Fault::ImproperPart.when(!descending),
@@ -126,7 +109,7 @@ fn fault_in_parts(height: u8, headers: &[u8]) -> Option<Fault>
 pub fn read_sending(bytes: &[u8]) -> Result<Sending<'_>, Fault>
     ensures { said_by_sending result ≡ judged (sending_faults bytes.now) (sending_in bytes.now) }
 {
-    let height = read_head(KIND, bytes)?;
+    let height = read_height(Kind::Sending, bytes)?;
     if !is_whole(bytes) {
         return Err(Fault::Malformed);
     }
@@ -135,7 +118,7 @@ pub fn read_sending(bytes: &[u8]) -> Result<Sending<'_>, Fault>
     match lower_of(fault_in_number(number), fault_in_parts(height, headers)) {
         Some(fault) => Err(fault),
         None => Ok(Sending {
-            height,
+            height: height.levels,
             number,
             headers,
         }),

@@ -42,11 +42,7 @@ pub fn write_word(n: u32, out: &mut [u8])
     requires { 4 ≤ length out.old }
     ensures { out.new ≡ over (bytes4 n) out.old }
 {
-    let [a, b, c, d] = n.to_be_bytes();
-    out[0] = a;
-    out[1] = b;
-    out[2] = c;
-    out[3] = d;
+    out[..4].copy_from_slice(&n.to_be_bytes());
 }
 
 /// Writes numbers to the front of lent memory.
@@ -54,7 +50,7 @@ pub fn write_words(numbers: &[u32], out: &mut [u8])
     requires { 4 * length numbers.now ≤ length out.old }
     ensures { out.new ≡ over (flat_map bytes4 numbers.now) out.old }
 {
-    for i in 0..numbers.len() {
-        write_word(numbers[i], &mut out[4 * i..]);
+    for (i, number) in numbers.iter().enumerate() {
+        write_word(*number, &mut out[4 * i..]);
     }
 }

@@ -1,16 +1,16 @@
--- Each turn hands one label on from what is to come to what has been found.
-use Rattle.std.proofs.Common.{◌≡◌, ◌%◌, length, drop, sym, ◌∙◌, arith}
-use Rattle.std.proofs.lemmas.List.{take_rest, length-drop}
-use Rattle.wire.proofs.Places.{all_more, all_none}
+-- Each place is tested, up to the first that is outside.
+use Rattle.std.proofs.Common.{◌&&◌, refl, rules}
+use borrow.Author.Tests.{tests}
+use Rattle.tree.specs.Nodes.{in_tree}
+use Rattle.tree.specs.Parts.{part}
+use Rattle.wire.specs.Entries.{places_in}
+use Rattle.wire.specs.Labels.{all_in_tree}
+use Rattle.wire.proofs.Tested.{all_tested}
 use Rattle.wire.proofs.labels.all_in_tree.Goals as goal
 
-pub loop-rest-preserved : goal.loop-rest-preserved
-loop-rest-preserved c =
-    let s = c.loop-rest.rest.now in
-    let inv = c.loop-rest.invariant in
-    let m : length (drop 40 s) % 40 ≡ 0 = omega (arith, length-drop 40 s, inv.0) in
-    rw (take_rest s 40, c.is_in_tree.ensures, c.is_in_tree-in-loop-rest.ensures, c.first_place-place.ensures)
-    (m, all_more c.args.height s c.loop-rest.all (omega (arith, inv.0)) ∙ inv.1)
-
 pub returns : goal.returns
-returns c = sym (all_none c.args.height c.loop-rest.rest.now c.loop-rest.all (omega arith)) ∙ c.loop-rest.invariant.1
+unfolding all_in_tree
+returns c =
+    let h = c.args.height.levels in
+    all_tested (λ p. in_tree h p.first && in_tree h p.second) (all_in_tree h) refl (λ p ps. refl) (part 0 0)
+    (λ s. places_in 40 s.entries.now) _ c.all.new.self _ _ c.all.ensures.ran (λ x q k. search (rules, tests)) (λ x q k. search (rules, tests))

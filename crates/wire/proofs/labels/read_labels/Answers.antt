@@ -11,12 +11,12 @@ use Rattle.wire.proofs.Labelled.{height_is, outside, astray, faultless}
 use Rattle.wire.proofs.labels.read_labels.Goals as goal
 use Rattle.wire.proofs.labels.read_labels.Goals.{In-Some}
 
-size : (c : goal.In-Some) → length c.args.bytes.now ≡ labels_size c.in_ok-height.height
+size : (c : goal.In-Some) → length c.args.bytes.now ≡ labels_size c.in_ok-height.height.levels
 size c = c.if-bytes-size_of_labels.false ∙ c.size_of_labels.ensures
 
-there : (c : goal.In-Some) → true ≡ ltb (word_at c.args.bytes.now 2) (2 ^ c.in_ok-height.height)
+there : (c : goal.In-Some) → true ≡ ltb (word_at c.args.bytes.now 2) (2 ^ c.in_ok-height.height.levels)
 there c =
-    let h = c.in_ok-height.height in
+    let h = c.in_ok-height.height.levels in
     let t = rw c.word_at-receiver.ensures at c.in-Some.ensures.there in
     sym (and_parts (is_height h) (ltb (word_at c.args.bytes.now 2) (2 ^ h)) (sym t)).1
 

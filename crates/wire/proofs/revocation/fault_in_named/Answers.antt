@@ -4,5 +4,5 @@ use Rattle.wire.proofs.revocation.fault_in_named.Goals as goal
 
 pub returns : goal.returns
 returns g c =
-    rw (c.lower_of.ensures.lower, c.fault_in.ensures, c.when.ensures, c.is_too_many.ensures, c.count.ensures)
+    rw (c.lower_of.ensures.lower, c.fault_in.ensures, c.when.ensures, c.count.ensures)
     (lowest_named c.args.height (g.L.ReceiverList.list c.args.receivers.now))

@@ -18,7 +18,7 @@ returns-in-Some-fault_in_named c =
 pub copy_words-requires : goal.copy_words-requires
 copy_words-requires c =
     let s = c.args.bytes.now in
-    rw (take_rest s 6) (named_few c.in_ok-height.height (revoked_in s) (rw (take_rest s 6) at c.in_default-fault_in_named.ensures))
+    rw (take_rest s 6) (named_few c.in_ok-height.height.levels (revoked_in s) (rw (take_rest s 6) at c.in_default-fault_in_named.ensures))
 
 pub returns : goal.returns
 returns c =

@@ -12,7 +12,7 @@ use Rattle.wire.proofs.revocation.write_revocation.Goals as goal
 pub returns-in-Some : goal.returns-in-Some
 returns-in-Some c =
     let f = c.in-Some.ensures in
-    record { answer = rw (← f); memory = refl; read_back = tt }
+    record { answer = rw (c.into.ensures, ← f); memory = refl; read_back = tt }
 
 pub returns-then-out-size : goal.returns-then-out-size
 returns-then-out-size c =
