@@ -4,9 +4,8 @@ ghost use Rattle.fault.specs.declared.Fault.TheVariants.{OutOfRange, NotRising};
 ghost use Rattle.fault.specs.Lowest.{when, lower, lowest};
 ghost use Rattle.tree.specs.Receivers.{list_faults};
 
-pub use crate::heights::MAX_HEIGHT;
-
 use crate::heights::Height;
+pub use crate::heights::MAX_HEIGHT;
 use fault::{Fault, lower_of};
 
 /// A list of receivers, wherever it is kept.
@@ -54,10 +53,7 @@ pub fn fault_in<L: ReceiverList>(height: u8, receivers: &L) -> Option<Fault>
     let mut least = 0;
     for i in 0..receivers.count() {
         let receiver = receivers.at(i);
-        fault = lower_of(
-            fault,
-            fault_of_next(receiver, least, height.receivers()),
-        );
+        fault = lower_of(fault, fault_of_next(receiver, least, height.receivers()));
         least = u64::from(receiver) + 1;
     }
     fault

@@ -90,12 +90,10 @@ pub fn read_labels(bytes: &[u8]) -> Result<Labels<'_>, Fault>
     if !is_along(way, entries) {
         return Err(Fault::WrongLabels);
     }
-    let mut start = [0; 32];
-    start.copy_from_slice(&bytes[6..HEAD]);
     Ok(Labels {
         height: height.levels,
         receiver,
-        start,
+        start: bytes[6..HEAD].try_into().unwrap(),
         entries,
     })
 }

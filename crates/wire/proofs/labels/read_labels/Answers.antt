@@ -1,5 +1,5 @@
 -- The reader comes to the faults in their order.
-use Rattle.std.proofs.Common.{◌≡◌, ◌^◌, true, ltb, length, Option, sym, ap, ◌∙◌}
+use Rattle.std.proofs.Common.{◌≡◌, ◌^◌, true, ltb, length, take, drop, rules, Option, sym, ap, ◌∙◌}
 use Rattle.std.proofs.lemmas.List.{take_rest}
 use Rattle.std.proofs.lemmas.Bool.{and_parts}
 use Rattle.fault.specs.declared.Fault.{Fault}
@@ -13,6 +13,9 @@ use Rattle.wire.proofs.labels.read_labels.Goals.{In-Some}
 
 size : (c : goal.In-Some) → length c.args.bytes.now ≡ labels_size c.in_ok-height.height.levels
 size c = c.if-bytes-size_of_labels.false ∙ c.size_of_labels.ensures
+
+start_is : (c : goal.After-unwrap) → c.unwrap.result ≡ take 32 (drop 6 c.args.bytes.now)
+start_is c = search rules
 
 there : (c : goal.In-Some) → true ≡ ltb (word_at c.args.bytes.now 2) (2 ^ c.in_ok-height.height.levels)
 there c =
@@ -43,4 +46,5 @@ returns c =
     let test = rw (take_rest s 38) at c.if-not-all_in_tree.ensures in
     let along = rw (take_rest s 38, c.in-Some.ensures.whole, c.word_at-receiver.ensures) at c.if-not-is_along.ensures in
     let none = faultless s _ head (size d) (there d) test along in
-    rw (none, take_rest s 38, c.word_at-receiver.ensures, c.copy_from_slice.ensures.after, height_is s _ head (size d))
+    let start = start_is c in
+    rw (none, take_rest s 38, c.word_at-receiver.ensures, start, height_is s _ head (size d))
