@@ -103,8 +103,9 @@ mod tests {
             "a node that is not in the tree"
         );
         assert_eq!(rt; labels_refusal(0, 0, 3), 2, "no node");
-        assert!(rt;
-            matches!(read_labels(b"\x02\x01\0\0\0\0"), Err(Fault::Malformed)),
+        assert_eq!(rt;
+            read_labels(b"\x02\x01\0\0\0\0").err(),
+            Some(Fault::Malformed),
             "cut"
         );
     }

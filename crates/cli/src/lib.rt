@@ -118,9 +118,9 @@ pub fn write_file(rt: &HostRuntime, path: &str, bytes: &[u8]) -> Result<(), Stop
     fs::rename(rt, &unfinished, path).map_err(|error| cannot("write", path, error))
 }
 
-/// A number that a text writes, where one above what 32 bits hold is as good as the highest that they do.
+/// The number that a text writes, if it fits 64 bits; one that does not fit 32 is as good as the highest that does.
 pub fn parse_number(text: &str) -> Option<u32>
-    ensures { SomeIff result (IsNumeral 10 (without_leading_plus text.now) × (digits_value 10 (without_leading_plus text.now) < 2 ^ 64)) (min (digits_value 10 (without_leading_plus text.now)) (2 ^ 32 - 1)) }
+    ensures { let digits = without_leading_plus text.now in SomeIff result (IsNumeral 10 digits × (digits_value 10 digits < 2 ^ 64)) (min (digits_value 10 digits) (2 ^ 32 - 1)) }
 {
     let number = text.parse::<u64>().ok()?;
     Some(u32::try_from(number).unwrap_or(u32::MAX))

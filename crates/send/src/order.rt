@@ -33,7 +33,7 @@ fn read_list(rt: &HostRuntime, path: &str) -> Result<Judged<List>, Stop> {
     match read_revocation(&bytes, &mut receivers) {
         Ok(list) => Ok(Ok(List {
             height: list.height,
-            revoked: Vec::from_slice(rt.alloc(), &receivers[0..list.count.min(MAX_REVOKED)])?,
+            revoked: Vec::from_slice(rt.alloc(), &receivers[0..list.count])?,
         })),
         Err(fault) => Ok(Err(fault)),
     }

@@ -29,7 +29,7 @@ fn read_named(rt: &HostRuntime, name: &str, kind: &str) -> Result<Vec<u8>, Stop>
 fn is_as_expected(rt: &HostRuntime, starts: &[u8], name: &str, number: u32) -> Result<bool, Stop> {
     let mut receivers = [0; MAX_REVOKED];
     let list = read_revocation(&read_named(rt, name, "list")?, &mut receivers)?;
-    let revoked = &receivers[0..list.count.min(MAX_REVOKED)];
+    let revoked = &receivers[0..list.count];
     let drawn = read_named(rt, name, "drawn")?;
     let session: Key = drawn.as_slice().try_into().unwrap_or([0; 32]);
     let kept = read_starts(rt, HEIGHT, revoked, starts, 100)??;
