@@ -1,4 +1,4 @@
-//! What the programs share: how they end, and how they read files. What is printed is run and compared, and not proved.
+//! What the programs share: how they end, and how they read files and numbers. What is printed is run and compared, and not proved.
 #![tactic(auto)]
 
 ghost use Rattle.std.specs.Prelude.{◌≡◌, ◌-◌, ◌^◌, ◌<◌, min, SomeIff, if◌then◌else◌, is_ok};
@@ -35,6 +35,7 @@ impl fmt::Display for Stop {
     }
 }
 
+// One impl over all errors would overlap those of faults, so each error has its own.
 impl From<io::Error> for Stop {
     fn from(error: io::Error) -> Stop {
         Stop::Failed(error.into())
