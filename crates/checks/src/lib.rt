@@ -9,13 +9,14 @@ mod tests {
     use wire::labels::read_labels;
     use wire::revocation::{MAX_REVOKED, read_revocation, write_revocation};
 
+    // The number of the refusal, or 0.
+    fn number_of<T: Drop>(answer: Result<T, Fault>) -> u8 {
+        answer.err().map_or(0, Fault::number)
+    }
+
     // The number of the refusal of a revocation list, or 0.
     fn refusal(bytes: &[u8]) -> u8 {
-        let mut receivers = [7; MAX_REVOKED];
-        match read_revocation(bytes, &mut receivers) {
-            Ok(_) => 0,
-            Err(fault) => fault.number(),
-        }
+        number_of(read_revocation(bytes, &mut [7; MAX_REVOKED]))
     }
 
     #[test]
@@ -59,22 +60,15 @@ mod tests {
     #[test]
     fn lists_are_read_as_they_were_written(rt: HostRuntime) {
         let mut bytes = [9; 16];
-        let size = match write_revocation(3, &[0, 5], &mut bytes) {
-            Ok(size) => size,
-            Err(_) => 0,
-        };
-        assert!(rt; size == 14);
-        assert!(rt;
-            &bytes[0..size] == b"\x01\x03\0\0\0\x02\0\0\0\0\0\0\0\x05".as_slice(),
-            "the bytes"
+        assert_eq!(rt; write_revocation(3, &[0, 5], &mut bytes), Ok(14));
+        assert_eq!(rt;
+            bytes,
+            *b"\x01\x03\0\0\0\x02\0\0\0\0\0\0\0\x05\x09\x09",
+            "the bytes, and the rest as it was"
         );
-        assert!(rt; bytes[14] == 9 && bytes[15] == 9, "the rest is as it was");
         let mut receivers = [7; MAX_REVOKED];
-        assert!(rt; read_revocation(&bytes[0..size], &mut receivers).is_ok());
-        assert!(rt;
-            receivers[0] == 0 && receivers[1] == 5 && receivers[2] == 7,
-            "the receivers"
-        );
+        assert!(rt; read_revocation(&bytes[0..14], &mut receivers).is_ok());
+        assert_eq!(rt; receivers.first_chunk(), Some(&[0, 5, 7]), "the receivers");
     }
 
     // The number of the refusal of the labels of a receiver of a tree of height 1, with one label of this place, or 0.
@@ -85,10 +79,7 @@ mod tests {
         bytes[5] = receiver;
         bytes[41] = first;
         bytes[45] = node;
-        match read_labels(&bytes) {
-            Ok(_) => 0,
-            Err(fault) => fault.number(),
-        }
+        number_of(read_labels(&bytes))
     }
 
     #[test]
@@ -112,47 +103,38 @@ mod tests {
             "a node that is not in the tree"
         );
         assert_eq!(rt; labels_refusal(0, 0, 3), 2, "no node");
-        assert!(rt;
-            matches!(read_labels(b"\x02\x01\0\0\0\0"), Err(Fault::Malformed)),
+        assert_eq!(rt;
+            read_labels(b"\x02\x01\0\0\0\0").err(),
+            Some(Fault::Malformed),
             "cut"
         );
     }
 
+    fn part(first: u32, second: u32) -> Part {
+        Part { first, second }
+    }
+
     #[test]
     fn covers_are_refused_with_nothing_written(rt: HostRuntime) {
-        let mut out = [Part {
-            first: 7,
-            second: 7,
-        }; 3];
-        assert!(rt;
-            matches!(cover(3, &[0, 5, 6], &mut out), Err(Refusal::NoRoom)),
+        let unwritten = part(7, 7);
+        let mut out = [unwritten; 3];
+        assert_eq!(rt;
+            cover(3, &[0, 5, 6], &mut out),
+            Err(Refusal::NoRoom),
             "too little room"
         );
-        assert!(rt;
-            matches!(
-                cover(3, &[5, 0], &mut out),
-                Err(Refusal::Faulty(Fault::NotRising))
-            ),
+        assert_eq!(rt;
+            cover(3, &[5, 0], &mut out),
+            Err(Refusal::Faulty(Fault::NotRising)),
             "falling"
         );
-        assert!(rt;
-            matches!(
-                cover(17, &[], &mut out),
-                Err(Refusal::Faulty(Fault::OutOfRange))
-            ),
+        assert_eq!(rt;
+            cover(17, &[], &mut out),
+            Err(Refusal::Faulty(Fault::OutOfRange)),
             "too high"
         );
-        assert!(rt;
-            out[0].first == 7 && out[1].first == 7 && out[2].first == 7,
-            "the memory is as it was"
-        );
-        assert!(rt; matches!(cover(3, &[0, 5], &mut out), Ok(2)), "two parts");
-        assert!(rt;
-            out[0].first == 2
-                && out[0].second == 8
-                && out[1].first == 3
-                && out[1].second == 13
-                && out[2].first == 7
-        );
+        assert_eq!(rt; out, [unwritten; 3], "the memory is as it was");
+        assert_eq!(rt; cover(3, &[0, 5], &mut out), Ok(2), "two parts");
+        assert_eq!(rt; out, [part(2, 8), part(3, 13), unwritten]);
     }
 }

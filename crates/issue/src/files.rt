@@ -23,12 +23,11 @@ pub fn write_files(
     receivers: &[u32],
 ) -> Result<(), Stop> {
     let mut bytes = vec![in rt.alloc(); 0; size_of_labels(starts.height())]?;
-    for i in 0..receivers.len() {
-        let receiver = receivers[i];
-        let size = write_labels(&mut ChaCha20, starts, receiver, &mut bytes)?;
+    for (before, receiver) in receivers.iter().enumerate() {
+        let size = write_labels(&mut ChaCha20, starts, *receiver, &mut bytes)?;
         let path = format!(in rt.alloc(); "{dir}/{receiver}.labels")?;
         cli::write_file(rt, path.as_str(), &bytes[0..size])?;
-        report(rt, i + 1, receivers.len())?;
+        report(rt, before + 1, receivers.len())?;
     }
     Ok(())
 }

@@ -37,6 +37,14 @@ fn read_starts(
     Ok(reader.finish())
 }
 
+fn verdict(is_as_expected: bool) -> &'static str {
+    if is_as_expected {
+        "as expected"
+    } else {
+        "differs"
+    }
+}
+
 /// Whether the receiver's labels are those of its file, and are read back.
 fn is_as_expected(rt: &HostRuntime, starts: &Starts, receiver: u32) -> Result<bool, Stop> {
     let path = format!(in rt.alloc(); "h3.{receiver}.labels")?;
@@ -52,50 +60,36 @@ fn compare_labels(rt: &HostRuntime, file: &[u8]) -> Result<(), Stop> {
     for size in [1, 2, 33, 514usize] {
         let starts = read_starts(rt, HEIGHT, &RECEIVERS, file, size)??;
         for receiver in RECEIVERS {
-            let verdict = if is_as_expected(rt, &starts, receiver)? {
-                "as expected"
-            } else {
-                "differs"
-            };
+            let verdict = verdict(is_as_expected(rt, &starts, receiver)?);
             println!(rt; "starts in pieces of {size}: labels of receiver {receiver}: {verdict}")?;
         }
     }
     Ok(())
 }
 
-fn number_of(answer: Result<Starts, Fault>) -> u8 {
-    match answer {
-        Ok(_) => 0,
-        Err(fault) => fault.number(),
-    }
+fn number_of<T: Drop>(answer: Result<T, Fault>) -> u8 {
+    answer.err().map_or(0, Fault::number)
 }
 
 fn show_refusals(rt: &HostRuntime, file: &[u8]) -> Result<(), Stop> {
-    let cut = number_of(read_starts(
-        rt,
-        HEIGHT,
-        &RECEIVERS,
-        &file[0..file.len().saturating_sub(1)],
-        100,
-    )?);
-    let higher = number_of(read_starts(rt, HEIGHT + 1, &RECEIVERS, file, 100)?);
-    let outside = number_of(read_starts(rt, HEIGHT, &[8], file, 100)?);
-    let both = number_of(read_starts(
-        rt,
-        HEIGHT,
-        &[8],
-        &file[0..file.len().saturating_sub(1)],
-        100,
-    )?);
-    println!(rt; "starts without their last byte: {cut}")?;
-    println!(rt; "starts for a higher tree: {higher}")?;
-    println!(rt; "starts for receiver 8: {outside}")?;
-    println!(rt; "starts for receiver 8 without their last byte: {both}")?;
+    let cut = &file[0..file.len().saturating_sub(1)];
+    let cases: [(&str, u8, &[u32], &[u8]); 4] = [
+        ("starts without their last byte", HEIGHT, &RECEIVERS, cut),
+        ("starts for a higher tree", HEIGHT + 1, &RECEIVERS, file),
+        ("starts for receiver 8", HEIGHT, &[8], file),
+        (
+            "starts for receiver 8 without their last byte",
+            HEIGHT,
+            &[8],
+            cut,
+        ),
+    ];
+    for (case, height, receivers, bytes) in cases {
+        let number = number_of(read_starts(rt, height, receivers, bytes, 100)?);
+        println!(rt; "{case}: {number}")?;
+    }
     let labels = cli::read_file(rt, "h3.0.labels")?;
-    let other = match read_labels_for(HEIGHT + 1, &labels) {
-        Ok(_) => 0,
-        Err(fault) => fault.number(),
-    };
+    let other = number_of(read_labels_for(HEIGHT + 1, &labels));
     println!(rt; "labels for a higher tree: {other}")?;
     Ok(())
 }

@@ -1,5 +1,5 @@
 //! The sendings among the test data.
-use crate::{HEIGHT, read_starts};
+use crate::{HEIGHT, RECEIVERS, read_starts, verdict};
 use cli::Stop;
 use keys::Key;
 use keys::cipher::ChaCha20;
@@ -17,28 +17,21 @@ const SENDINGS: [(&str, u32); 6] = [
     ("last-number", 4294967293),
 ];
 
-/// The most parts that eight revoked receivers can make.
-const MAX_PARTS: usize = 15;
+/// The most parts that cover all receivers but some of them.
+const MAX_PARTS: usize = 2 * RECEIVERS.len() - 1;
 
 fn read_named(rt: &HostRuntime, name: &str, kind: &str) -> Result<Vec<u8>, Stop> {
     let path = format!(in rt.alloc(); "h3.{name}.{kind}")?;
     cli::read_file(rt, path.as_str())
 }
 
-fn session_in(drawn: &[u8]) -> Key {
-    let mut session = [0; 32];
-    if drawn.len() == 32 {
-        session.copy_from_slice(drawn);
-    }
-    session
-}
-
 /// Whether the sending is that of the file, and is read back.
 fn is_as_expected(rt: &HostRuntime, starts: &[u8], name: &str, number: u32) -> Result<bool, Stop> {
     let mut receivers = [0; MAX_REVOKED];
     let list = read_revocation(&read_named(rt, name, "list")?, &mut receivers)?;
-    let revoked = &receivers[0..list.count.min(MAX_REVOKED)];
-    let session = session_in(&read_named(rt, name, "drawn")?);
+    let revoked = &receivers[0..list.count];
+    let drawn = read_named(rt, name, "drawn")?;
+    let session: Key = drawn.as_slice().try_into().unwrap_or([0; 32]);
     let kept = read_starts(rt, HEIGHT, revoked, starts, 100)??;
     let mut parts = [Part::ALL; MAX_PARTS];
     let mut bytes = vec![in rt.alloc(); 0; size_of_sending(MAX_PARTS as u32)]?;
@@ -58,11 +51,7 @@ fn is_as_expected(rt: &HostRuntime, starts: &[u8], name: &str, number: u32) -> R
 
 pub fn compare_sendings(rt: &HostRuntime, starts: &[u8]) -> Result<(), Stop> {
     for (name, number) in SENDINGS {
-        let verdict = if is_as_expected(rt, starts, name, number)? {
-            "as expected"
-        } else {
-            "differs"
-        };
+        let verdict = verdict(is_as_expected(rt, starts, name, number)?);
         println!(rt; "sending {number}, {name}: {verdict}")?;
     }
     Ok(())

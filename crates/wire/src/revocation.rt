@@ -13,6 +13,9 @@ use tree::receivers::{ReceiverList, fault_in};
 /// A list names at most so many revoked receivers.
 pub const MAX_REVOKED: usize = 4096;
 
+/// The most parts that cover all receivers but those of a list.
+pub const MAX_PARTS: usize = 2 * MAX_REVOKED - 1;
+
 /// What a revocation list says besides its receivers.
 #[derive(Clone, Copy)]
 pub struct Revocation {
