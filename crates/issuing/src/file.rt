@@ -21,39 +21,31 @@ pub struct Sources {
     pub receiver: u32,
     pub own: u32,
     pub all: Key,
+    // No heap is asked for each receiver, so there is room for the levels of every tree.
     pub above: [Key; LEVELS],
+    ghost low: { height ≤ max_height },
+    ghost stands: { own ≡ leaf height receiver },
 }
 
-/// Writes the labels under each of the nodes above a leaf, from below upwards, to the front of lent memory.
-fn write_levels<C: Cipher>(
-    cipher: &mut C,
-    height: u8,
-    own: u32,
-    starts: [Key; LEVELS],
-    out: &mut [u8],
-)
-    requires { (height ≤ max_height) × ((2 ^ height ≤ own) × (40 * (height * (height + 1) / 2) ≤ length out.old)) }
-    ensures { (d : Draws) (g : ℕ) → StartsAbove (world C.Cipher.gives d) g height own starts → Wrote (world C.Cipher.gives d) g height (above height 1 (own / 2) own) out.old out.new }
+/// Writes the labels under each of the nodes above a receiver's own, from below upwards, to the front of lent memory.
+fn write_levels<C: Cipher>(cipher: &mut C, sources: &Sources, out: &mut [u8])
+    requires { 40 * (sources.now.height * (sources.now.height + 1) / 2) ≤ length out.old }
+    ensures { (d : Draws) (g : ℕ) → StartsAbove (world C.Cipher.gives d) g sources.now.height sources.now.own sources.now.above → Wrote (world C.Cipher.gives d) g sources.now.height (above sources.now.height 1 (sources.now.own / 2) sources.now.own) out.old out.new }
 {
     let mut at = 0;
-    for level in 0..height {
+    for level in 0..sources.height {
         let steps = level + 1;
-        write_under(cipher, starts[level as usize], own, steps, &mut out[at..]);
+        let start = sources.above[level as usize];
+        write_under(cipher, start, sources.own, steps, &mut out[at..]);
         at += ENTRY * steps as usize;
     }
 }
 
 /// Writes a receiver's label file to the front of lent memory.
-pub fn write_file<C: Cipher>(cipher: &mut C, sources: Sources, out: &mut [u8])
-    requires { (sources.height ≤ max_height) × ((sources.own ≡ leaf sources.height sources.receiver) × (labels_size sources.height ≤ length out.old)) }
-    ensures { (d : Draws) (g : ℕ) → StartOfAll (world C.Cipher.gives d) g sources.all → StartsAbove (world C.Cipher.gives d) g sources.height sources.own sources.above → WroteFile (world C.Cipher.gives d) g sources.height sources.receiver out.old out.new }
+pub fn write_file<C: Cipher>(cipher: &mut C, sources: &Sources, out: &mut [u8])
+    requires { labels_size sources.now.height ≤ length out.old }
+    ensures { (d : Draws) (g : ℕ) → StartOfAll (world C.Cipher.gives d) g sources.now.all → StartsAbove (world C.Cipher.gives d) g sources.now.height sources.now.own sources.now.above → WroteFile (world C.Cipher.gives d) g sources.now.height sources.now.receiver out.old out.new }
 {
     out[0..HEAD].copy_from_slice(&head_bytes(sources.height, sources.receiver, sources.all));
-    write_levels(
-        cipher,
-        sources.height,
-        sources.own,
-        sources.above,
-        &mut out[HEAD..],
-    );
+    write_levels(cipher, sources, &mut out[HEAD..]);
 }

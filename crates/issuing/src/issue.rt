@@ -29,29 +29,19 @@ fn starts_above(starts: &Starts, height: u8, own: u32) -> Option<[Key; LEVELS]>
 {
     let mut above = [[0; 32]; LEVELS];
     for level in 0..height {
-        let Some(start) = starts.of(own >> (level + 1)) else {
-            return None;
-        };
-        above[level as usize] = start;
+        above[level as usize] = starts.of(own >> (level + 1))?;
     }
     Some(above)
 }
 
 /// What a receiver's labels come from, if it is in the tree and all of it was kept.
 fn gather(starts: &Starts, receiver: u32) -> Option<Sources>
-    ensures sound { IfSome result (λ v. (v.height ≤ max_height) × (v.own ≡ leaf v.height v.receiver)) }
-    ensures gathered { (h : ℕ) (us s : List ℕ) → HasStarts h us s starts.now → MatchOption result (is_served h us receiver ≡ false) (GatheredFor h us s receiver) }
+    ensures { (h : ℕ) (us s : List ℕ) → HasStarts h us s starts.now → MatchOption result (is_served h us receiver ≡ false) (GatheredFor h us s receiver) }
 {
     let height = starts.height();
-    let Some(own) = leaf_of(height, receiver) else {
-        return None;
-    };
-    let Some(all) = starts.of(0) else {
-        return None;
-    };
-    let Some(above) = starts_above(starts, height, own) else {
-        return None;
-    };
+    let own = leaf_of(height, receiver)?;
+    let all = starts.of(0)?;
+    let above = starts_above(starts, height, own)?;
     Some(Sources {
         height,
         receiver,
@@ -76,12 +66,12 @@ pub fn write_labels<C: Cipher>(
     ensures refused { OnErr result (out.new ≡ out.old) }
 {
     let Some(sources) = gather(starts, receiver) else {
-        return Err(Refusal::Faulty(Fault::OutOfRange));
+        return Err(Fault::OutOfRange.into());
     };
     let size = size_of_labels(sources.height);
     if out.len() < size {
         return Err(Refusal::NoRoom);
     }
-    write_file(cipher, sources, out);
+    write_file(cipher, &sources, out);
     Ok(size)
 }

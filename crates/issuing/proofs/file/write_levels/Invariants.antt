@@ -7,6 +7,7 @@ use Rattle.issuing.proofs.file.write_levels.Given as goal
 
 abbrev pub invariant-loop-level : goal.invariant-loop-level
 invariant-loop-level g l =
-    (l.at ≡ 40 * length (levels l.level l.own)) ×
-    ((d : Draws) (tree : ℕ) → StartsAbove (world g.C.Cipher.gives d) tree l.height l.own l.starts →
-    Filled (world g.C.Cipher.gives d) tree l.height l.own l.initial.out l.level l.out)
+    let v = l.sources in
+    (l.at ≡ 40 * length (levels l.level v.own)) ×
+    ((d : Draws) (tree : ℕ) → StartsAbove (world g.C.Cipher.gives d) tree v.height v.own v.above →
+    Filled (world g.C.Cipher.gives d) tree v.height v.own l.initial.out l.level l.out)

@@ -12,7 +12,7 @@ use Rattle.issuing.proofs.issue.write_labels.Goals as goal
 pub returns-in_default : goal.returns-in_default
 returns-in_default g c =
     record {
-      answer = λ h us s has. rw (c.in_default.ensures.gathered h us s has) refl;
+      answer = λ h us s has. rw (c.into.ensures, c.in_default.ensures h us s has) refl;
       asked = asked_served;
       within = tt;
       memory = λ h us s d tree has drawn. refl;
@@ -25,7 +25,7 @@ returns-then-out-size g c =
     record {
       answer =
           λ h us s has.
-          let v = c.in-Some.ensures.gathered h us s has in
+          let v = c.in-Some.ensures h us s has in
           let size = c.size_of_labels-size.ensures ∙ ap labels_size v.height in
           let short = lt-leb (labels_size h) (length c.args.out.now) (omega (arith, size, c.if-out-size.true)) in
           rw (v.served, short) refl;
@@ -43,7 +43,7 @@ returns g c =
     record {
       answer =
           λ h us s has.
-          let v = c.in-Some.ensures.gathered h us s has in
+          let v = c.in-Some.ensures h us s has in
           let n = size h v.height in
           let enough = le-leb (labels_size h) room (omega (arith, n, c.if-out-size.false)) in
           rw (v.served, enough, n) refl;
@@ -51,16 +51,16 @@ returns g c =
       within = omega arith;
       memory =
           λ h us s d tree has drawn.
-          let v = c.in-Some.ensures.gathered h us s has in
+          let v = c.in-Some.ensures h us s has in
           (wrote g.C.Cipher.gives d tree h us s c.args.receiver c.in-Some.sources drawn v c.args.out.now c.write_file.new.out
-          c.in-Some.ensures.sound.1 (c.write_file.ensures d tree)).1;
+          c.in-Some.sources.stands (c.write_file.ensures d tree)).1;
       read_back =
           λ h us s d tree has drawn.
-          let v = c.in-Some.ensures.gathered h us s has in
+          let v = c.in-Some.ensures h us s has in
           let u = c.args.receiver in
           read_back (world g.C.Cipher.gives d) tree h u c.size_of_labels-size.result c.args.out.now c.write_file.new.out
           (sound_height h us (sym (ap lowest has.sound))) (low g.C.Cipher.gives d tree h us s u c.in-Some.sources drawn v) (size h v.height)
           (wrote g.C.Cipher.gives d tree h us s u c.in-Some.sources drawn v c.args.out.now c.write_file.new.out
-          c.in-Some.ensures.sound.1 (c.write_file.ensures d tree));
+          c.in-Some.sources.stands (c.write_file.ensures d tree));
       refused = tt;
     }
