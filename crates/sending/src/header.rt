@@ -8,6 +8,7 @@ ghost use Rattle.secrecy.specs.Worlds.{xors, bytes};
 ghost use Rattle.keys.specs.Drawn.{Draws, world};
 ghost use Rattle.sending.specs.Sent.{covered};
 
+use crate::show::Show;
 use fault::Fault;
 use keys::cipher::Cipher;
 use keys::descent::part_key;
@@ -22,23 +23,17 @@ fn under(pad: Pad, session: Key) -> Pad
     let mut plain = [0; 48];
     plain[0..32].copy_from_slice(&session);
     let mut covered = pad;
-    for i in 0..48usize {
-        covered[i] ^= plain[i];
+    for (i, byte) in plain.iter().enumerate() {
+        covered[i] ^= byte;
     }
     covered
 }
 
 /// The 48 bytes of a part's header, from the start of the part's first node.
-pub fn header<C: Cipher>(
-    cipher: &mut C,
-    start: Key,
-    part: Part,
-    number: u32,
-    session: Key,
-) -> Result<Pad, Fault>
-    ensures { (h : ℕ) → part.second < 2 ^ suc h → T (proper h part) → number ≤ last_number → MatchResult result (λ b. (d : Draws) (m : Trial) → m.number ≡ number → start ≡ bytes (world C.Cipher.gives d) (Start m.tree part.first) → session ≡ bytes (world C.Cipher.gives d) (Session m.session) → b ≡ covered (world C.Cipher.gives d) h m part) (λ _. ⊥) }
+pub fn header<C: Cipher>(cipher: &mut C, start: Key, part: Part, show: Show) -> Result<Pad, Fault>
+    ensures { (h : ℕ) → part.second < 2 ^ suc h → T (proper h part) → show.number ≤ last_number → MatchResult result (λ b. (d : Draws) (m : Trial) → m.number ≡ show.number → start ≡ bytes (world C.Cipher.gives d) (Start m.tree part.first) → show.session ≡ bytes (world C.Cipher.gives d) (Session m.session) → b ≡ covered (world C.Cipher.gives d) h m part) (λ _. ⊥) }
 {
     let key = part_key(cipher, start, part)?;
-    let pad = pad(cipher, key, number)?;
-    Ok(under(pad, session))
+    let pad = pad(cipher, key, show.number)?;
+    Ok(under(pad, show.session))
 }

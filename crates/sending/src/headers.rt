@@ -10,8 +10,8 @@ ghost use Rattle.starts.specs.Reading.{HasStarts};
 ghost use Rattle.sending.specs.Headers.{AllSendable, WroteHeaders};
 
 use crate::header::header;
+use crate::show::Show;
 use fault::Fault;
-use keys::Key;
 use keys::cipher::Cipher;
 use starts::table::Starts;
 use tree::parts::Part;
@@ -22,21 +22,19 @@ pub fn write_headers<C: Cipher>(
     cipher: &mut C,
     starts: &Starts,
     parts: &[Part],
-    number: u32,
-    session: Key,
+    show: Show,
     out: &mut [u8],
 ) -> Result<(), Fault>
     requires { 56 * length parts.now ≤ length out.old }
-    ensures { (h : ℕ) (us s : List ℕ) → HasStarts h us s starts.now → number ≤ last_number → AllSendable h us parts.now → MatchResult result (λ _. (d : Draws) (m : Trial) → m.number ≡ number → DrawnIn s m.tree h d → session ≡ bytes (world C.Cipher.gives d) (Session m.session) → WroteHeaders (world C.Cipher.gives d) h m parts.now out.old out.new) (λ _. ⊥) }
+    ensures { (h : ℕ) (us s : List ℕ) → HasStarts h us s starts.now → show.number ≤ last_number → AllSendable h us parts.now → MatchResult result (λ _. (d : Draws) (m : Trial) → m.number ≡ show.number → DrawnIn s m.tree h d → show.session ≡ bytes (world C.Cipher.gives d) (Session m.session) → WroteHeaders (world C.Cipher.gives d) h m parts.now out.old out.new) (λ _. ⊥) }
 {
-    for i in 0..parts.len() {
-        let part = parts[i];
+    for (i, part) in parts.iter().enumerate() {
         let Some(start) = starts.of(part.first) else {
             return Err(Fault::OutOfRange);
         };
-        let covered = header(cipher, start, part, number, session)?;
+        let covered = header(cipher, start, *part, show)?;
         let at = HEADER * i;
-        out[at..at + HEADER].copy_from_slice(&header_bytes(part, covered));
+        out[at..at + HEADER].copy_from_slice(&header_bytes(*part, covered));
     }
     Ok(())
 }

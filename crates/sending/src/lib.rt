@@ -4,3 +4,4 @@
 mod header;
 mod headers;
 pub mod send;
+mod show;

@@ -15,6 +15,7 @@ ghost use Rattle.sending.specs.Secret.{SendingsSecret};
 ghost use Rattle.sending.specs.Sent.{covered, sent_file, Ordered, SentIn, FileIsAir};
 
 use crate::headers::write_headers;
+use crate::show::Show;
 use fault::{Fault, Refusal, lower_of};
 use keys::Key;
 use keys::cipher::Cipher;
@@ -49,32 +50,27 @@ fn cover_rest(height: u8, revoked: &[u32], parts: &mut [Part]) -> Result<u32, Re
     Ok(count as u32)
 }
 
-/// Writes a sending whose number and revoked receivers have no fault, where there is room for it.
+/// Writes a sending whose number and revoked receivers have no fault, where there is room for it, and answers how many parts it has.
 fn write_checked<C: Cipher>(
     cipher: &mut C,
     starts: &Starts,
     height: u8,
     revoked: &[u32],
-    number: u32,
-    session: Key,
+    show: Show,
     parts: &mut [Part],
     out: &mut [u8],
-) -> Result<usize, Fault>
-    requires sound { None ≡ lowest (send_faults height number revoked.now) }
+) -> Result<u32, Refusal>
+    requires sound { None ≡ lowest (send_faults height show.number revoked.now) }
     requires noted { most (length revoked.now) ≤ length parts.old }
     requires room { sending_size (most (length revoked.now)) ≤ length out.old }
-    ensures within { IfOk result (λ n. n ≤ length out.old) }
-    ensures written { (s : List ℕ) → HasStarts height revoked.now s starts.now → MatchResult result (λ n. (n ≡ sending_size (length (cover height revoked.now))) × (parts.new ≡ over (cover height revoked.now) parts.old) × ((d : Draws) (m : Sending) → Ordered C.Cipher.gives s height number revoked.now session d m → SentIn (world C.Cipher.gives d) height m out.old out.new)) (λ _. ⊥) }
+    ensures within { IfOk result (λ n. sending_size n ≤ length out.old) }
+    ensures written { (s : List ℕ) → HasStarts height revoked.now s starts.now → MatchResult result (λ n. (n ≡ length (cover height revoked.now)) × (parts.new ≡ over (cover height revoked.now) parts.old) × ((d : Draws) (m : Sending) → Ordered C.Cipher.gives s height show.number revoked.now show.session d m → SentIn (world C.Cipher.gives d) height m out.old out.new)) (λ _. ⊥) }
 {
-    let Ok(count) = cover_rest(height, revoked, parts) else {
-        return Err(Fault::OutOfRange);
-    };
-    out[0..HEAD].copy_from_slice(&head_bytes(height, number, count));
+    let count = cover_rest(height, revoked, parts)?;
+    out[0..HEAD].copy_from_slice(&head_bytes(height, show.number, count));
     let cover = &parts[0..count as usize];
-    match write_headers(cipher, starts, cover, number, session, &mut out[HEAD..]) {
-        Ok(_) => Ok(size_of_sending(count)),
-        Err(fault) => Err(fault),
-    }
+    write_headers(cipher, starts, cover, show, &mut out[HEAD..])?;
+    Ok(count)
 }
 
 /// Writes a sending to the front of the lent memory, with its parts noted in the front of `parts`, and answers how many bytes it has. The starts
@@ -100,13 +96,12 @@ pub fn write_sending<C: Cipher>(
 {
     let height = starts.height();
     if let Some(fault) = fault_in_order(height, number, revoked) {
-        return Err(Refusal::Faulty(fault));
+        return Err(fault.into());
     }
     if !has_room(revoked.len(), room_for(parts.len(), out.len())) {
         return Err(Refusal::NoRoom);
     }
-    match write_checked(cipher, starts, height, revoked, number, session, parts, out) {
-        Ok(size) => Ok(size),
-        Err(fault) => Err(Refusal::Faulty(fault)),
-    }
+    let show = Show { number, session };
+    let count = write_checked(cipher, starts, height, revoked, show, parts, out)?;
+    Ok(size_of_sending(count))
 }

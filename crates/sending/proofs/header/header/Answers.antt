@@ -11,4 +11,4 @@ returns g c h low proper within d m e start session =
     let k = key m.tree h c.args.part in
     let at_key = (c.in_ok-key.ensures.answer h low).1 d m.tree start in
     let at-pad = c.in_ok-pad.ensures.answer.1 d k at_key in
-    rw e (under_terms w k c.args.number m.session c.in_ok-pad.pad c.args.session c.under.result (omega arith) (omega arith) at-pad session c.under.ensures)
+    rw e (under_terms w k c.args.show.number m.session c.in_ok-pad.pad c.args.show.session c.under.result (omega arith) (omega arith) at-pad session c.under.ensures)

@@ -5,7 +5,7 @@ use Rattle.tree.specs.Cover.{cover}
 use Rattle.tree.proofs.Judged.{sound}
 use Rattle.secrecy.specs.Air.{as_trial}
 use Rattle.keys.specs.Drawn.{world}
-use Rattle.wire.specs.Sending.{sending_head, sending_size}
+use Rattle.wire.specs.Sending.{sending_head}
 use Rattle.sending.specs.Headers.{AllSendable}
 use Rattle.sending.proofs.Counted.{order_sound, count_is, noted_is, few_noted}
 use Rattle.sending.proofs.Parts.{all_sendable}
@@ -18,47 +18,42 @@ write_headers-requires g c =
     let rs = c.args.revoked.now in
     let before = c.args.parts.now in
     let mid = c.copy_from_slice.new.self ++ drop 10 c.args.out.now in
-    let e = c.in-Ok.ensures in
-    let noted = noted_is k rs before c.cover_rest.new.parts c.in-Ok.count e.answer e.memory in
-    let few = few_noted k rs before c.cover_rest.new.parts c.in-Ok.count e.answer e.memory in
+    let e = c.in_ok-count.ensures in
+    let noted = noted_is k rs before c.cover_rest.new.parts c.in_ok-count.count e.answer e.memory in
+    let few = few_noted k rs before c.cover_rest.new.parts c.in_ok-count.count e.answer e.memory in
     let long = length-append c.copy_from_slice.new.self (drop 10 c.args.out.now) in
     rw (noted, take_rest mid 10, length-drop 10 mid) (omega (arith, few, long, length-drop 10 c.args.out.now, c.copy_from_slice.ensures.len))
 
-pub returns-in-Ok-write_headers : goal.returns-in-Ok-write_headers
-returns-in-Ok-write_headers g c =
+pub returns-in_err-write_headers-clause-written : goal.returns-in_err-write_headers-clause-written
+returns-in_err-write_headers-clause-written g c s has =
+    let k = c.args.height in
+    let rs = c.args.revoked.now in
+    let e = c.in_ok-count.ensures in
+    let noted = noted_is k rs c.args.parts.now c.cover_rest.new.parts c.in_ok-count.count e.answer e.memory in
+    let (low, none) = order_sound k c.args.show.number rs c.requires.sound in
+    absurd (c.in_err-write_headers.ensures k rs s has low (subst (AllSendable k rs) (sym noted) (all_sendable k rs (sound k rs none).1)))
+
+pub returns : goal.returns
+returns g c =
     let k = c.args.height in
     let rs = c.args.revoked.now in
     let before = c.args.out.now in
-    let e = c.in-Ok.ensures in
-    let count = count_is k rs c.args.parts.now c.cover_rest.new.parts c.in-Ok.count e.answer e.memory in
-    let noted = noted_is k rs c.args.parts.now c.cover_rest.new.parts c.in-Ok.count e.answer e.memory in
-    let few = few_noted k rs c.args.parts.now c.cover_rest.new.parts c.in-Ok.count e.answer e.memory in
-    let (low, none) = order_sound k c.args.number rs c.requires.sound in
+    let e = c.in_ok-count.ensures in
+    let count = count_is k rs c.args.parts.now c.cover_rest.new.parts c.in_ok-count.count e.answer e.memory in
+    let noted = noted_is k rs c.args.parts.now c.cover_rest.new.parts c.in_ok-count.count e.answer e.memory in
+    let few = few_noted k rs c.args.parts.now c.cover_rest.new.parts c.in_ok-count.count e.answer e.memory in
+    let (low, none) = order_sound k c.args.show.number rs c.requires.sound in
     let front = c.copy_from_slice.ensures.after ∙ c.head_bytes.ensures in
     record {
-      within = omega (arith, c.size_of_sending.ensures, count, few);
+      within = omega (arith, count, few);
       written =
           λ s has. (
-            c.size_of_sending.ensures ∙ ap sending_size count,
+            count,
             e.memory,
             λ d m o.
-                let wrote = c.in-Ok-write_headers.ensures k rs s has low (subst (AllSendable k rs) (sym noted) (all_sendable k rs (sound k rs none).1)) d (as_trial k m) o.number o.starts o.session in
+                let wrote = c.in_ok-write_headers.ensures k rs s has low (subst (AllSendable k rs) (sym noted) (all_sendable k rs (sound k rs none).1)) d (as_trial k m) o.number o.starts o.session in
                 let parts = noted ∙ ap (cover k) (sym o.revoked) in
-                let head = ap (λ (l : List ℕ). l ++ drop 10 before) (front ∙ ap (λ (n : ℕ). sending_head k n c.in-Ok.count) (sym o.number) ∙ ap (sending_head k m.number) (count ∙ ap (λ (r : List ℕ). length (cover k r)) (sym o.revoked))) in
+                let head = ap (λ (l : List ℕ). l ++ drop 10 before) (front ∙ ap (λ (n : ℕ). sending_head k n c.in_ok-count.count) (sym o.number) ∙ ap (sending_head k m.number) (count ∙ ap (λ (r : List ℕ). length (cover k r)) (sym o.revoked))) in
                 sent_in (world g.C.Cipher.gives d) k m before _ c.write_headers.new.out head (rw parts at wrote),
           );
-    }
-
-pub returns-in-Err : goal.returns-in-Err
-returns-in-Err g c =
-    record {
-      within = tt;
-      written =
-          λ s has.
-          let k = c.args.height in
-          let rs = c.args.revoked.now in
-          let e = c.in-Ok.ensures in
-          let noted = noted_is k rs c.args.parts.now c.cover_rest.new.parts c.in-Ok.count e.answer e.memory in
-          let (low, none) = order_sound k c.args.number rs c.requires.sound in
-          c.in-Err.ensures k rs s has low (subst (AllSendable k rs) (sym noted) (all_sendable k rs (sound k rs none).1));
     }
