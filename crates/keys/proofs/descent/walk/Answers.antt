@@ -4,7 +4,7 @@ use Rattle.std.proofs.Math.Nat.{div-eq_of_lt}
 use Rattle.std.proofs.Math.Pow.{pow_mono}
 use Rattle.std.proofs.lemmas.Bool.{cases_Bool, cond-true, cond-false, ltb-false}
 use Rattle.keys.specs.Drawn.{world}
-use Rattle.keys.proofs.Walks.{along_none, along_more, along_all}
+use Rattle.keys.proofs.Walks.{along_more, along_all}
 use Rattle.keys.proofs.descent.walk.Goals as goal
 
 -- no bit is left after a shift by all of them
@@ -16,9 +16,6 @@ shifted x n r few e = e ∙ ⊎_elim within beyond (cases_Bool (ltb n 32))
 
     beyond : ltb n 32 ≡ false → cond (ltb n 32) (x / 2 ^ n) 0 ≡ x / 2 ^ n
     beyond f = let all : 32 ≤ n = ltb-false n 32 f in cond-false (ltb n 32) (x / 2 ^ n) 0 f ∙ sym (div-eq_of_lt (omega (arith, pow_mono all)))
-
-pub loop-left-init : goal.loop-left-init
-loop-left-init g c d t e = along_none g.C.Cipher.steps (world g.C.Cipher.gives d) _ t _ _ e
 
 pub loop-left-preserved : goal.loop-left-preserved
 loop-left-preserved g c d t e =
