@@ -52,12 +52,7 @@ fn word(bytes: &[u8], k: usize) -> u32
     requires { 4 * k + 4 ≤ length bytes.now }
     ensures { result ≡ word_at bytes.now k }
 {
-    u32::from_le_bytes([
-        bytes[4 * k],
-        bytes[4 * k + 1],
-        bytes[4 * k + 2],
-        bytes[4 * k + 3],
-    ])
+    u32::from_le_bytes(*bytes[4 * k..].first_chunk().unwrap())
 }
 
 fn block_from(start: State) -> [u8; 64]
