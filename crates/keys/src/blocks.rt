@@ -1,4 +1,4 @@
-//! Which bytes of a block serve for what, and which block serves for a number. Assumes nothing.
+//! The two ends of a block, and which block serves for a number. Assumes nothing.
 ghost use Rattle.std.specs.Prelude.{◌≡◌, ◌+◌, ◌-◌, ◌<◌, ◌≤◌, take, drop, MatchResult};
 ghost use Rattle.fault.specs.declared.Fault.TheVariants.{OutOfRange};
 ghost use Rattle.keys.specs.Promise.{last_number};
