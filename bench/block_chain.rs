@@ -1,5 +1,5 @@
 //! Times a chain of ChaCha20 blocks, in which the first 32 bytes of each block are the next key: by the proved
-//! function of `crates/chacha`, linked as a static library, and by the same code in Rust, turn by turn in one run.
+//! function of `crates/chacha`, linked as a static library, and by plain Rust, turn by turn in one run.
 
 use std::hint::black_box;
 use std::process::ExitCode;

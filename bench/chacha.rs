@@ -1,4 +1,4 @@
-//! ChaCha20's block in plain Rust, with the steps of the proved one.
+//! ChaCha20's block in plain Rust: one quarter round after the other, on sixteen words.
 
 type State = [u32; 16];
 

@@ -30,7 +30,7 @@ abbrev pub even_line : ℕ → Four → Four
 even_line n (a, b, c, d) = (a, rolled n (bit_xor b (plus c d)), plus c d, d)
 
 -- Section 2.1, the quarter round: its four lines.
-abbrev pub quarter_round : Four → Four
+unfoldable pub quarter_round : Four → Four
 quarter_round four = four then odd_line 16 then even_line 12 then odd_line 8 then even_line 7
 
 -- Section 2.2, QUARTERROUND(x, y, z, w): the quarter round on the words of a state at these places.

@@ -1,4 +1,5 @@
 // The block as `chacha_c` exports it to callers outside Rattle: slices of any length come in, and those of a wrong length are refused.
+// Kept for the C interface: a `bool` for the refusal, and the function here and there, since a crate is a library or a static library.
 ghost use Rattle.std.specs.Prelude.{◌≡◌, ◌&&◌, length, if◌then◌else◌, ◌==◌};
 ghost use Rattle.chacha.specs.Rfc8439.{chacha20_block};
 
@@ -16,6 +17,7 @@ pub fn zozhimbe_block(key: &[u8], counter: u32, nonce: &[u8], out: &mut [u8]) ->
     let Ok(nonce) = <[u8; 12]>::try_from(nonce) else {
         return false;
     };
+    // Not `<&mut [u8; 64]>::try_from(out)`: its contract doesn't say what a write through it leaves in `out`.
     if out.len() != 64 {
         return false;
     }

@@ -1,17 +1,26 @@
 // The ChaCha20 block function of RFC 8439: 64 bytes from a key, a block counter and a nonce.
-// Words are little-endian, and their sums wrap.
+// Words are little-endian, and their sums wrap. A state is four rows of words, so that one run of the quarter round's lines does all four columns.
 #![tactic(auto)]
 
 ghost use Rattle.std.specs.Simd.Lanes.{zip2};
-ghost use Rattle.std.specs.Prelude.{◌≡◌, ◌+◌, ◌*◌, ◌<◌, ◌≤◌, length};
+ghost use Rattle.std.specs.Prelude.{◌≡◌, ℕ, ◌+◌, ◌*◌, ◌<◌, ◌≤◌, length, slice_index, bit_xor};
 ghost use Rattle.chacha.specs.Examples.{QuarterRoundExample, BlockExample};
-ghost use Rattle.chacha.specs.Rfc8439.{plus, quarter_round, quarter_round_at, column_round, diagonal_round, double_rounds, word_at, initial_state, bytes_of, block_from, chacha20_block};
+ghost use Rattle.chacha.specs.Rfc8439.{plus, rolled, quarter_round, column_round, diagonal_round, double_rounds, word_at, initial_state, bytes_of, block_from, chacha20_block};
+ghost use Rattle.chacha.specs.Rows.{column, words};
 ghost use Rattle.std.specs.List.{flat_map};
+
+use std::simd::u32x4;
 
 pub mod ffi;
 
 /// Four rows of four words.
-type State = [u32; 16];
+#[derive(Clone, Copy)]
+struct State {
+    a: u32x4,
+    b: u32x4,
+    c: u32x4,
+    d: u32x4,
+}
 
 const DOUBLE_ROUNDS: u32 = 10;
 
@@ -28,26 +37,14 @@ pub fn rfc_examples()
 {}
 
 fn initial_state(key: [u8; 32], counter: u32, nonce: [u8; 12]) -> State
-    ensures { result ≡ initial_state key counter nonce }
+    ensures { words result ≡ initial_state key counter nonce }
 {
-    [
-        0x61707865,
-        0x3320646e,
-        0x79622d32,
-        0x6b206574,
-        word(&key, 0),
-        word(&key, 1),
-        word(&key, 2),
-        word(&key, 3),
-        word(&key, 4),
-        word(&key, 5),
-        word(&key, 6),
-        word(&key, 7),
-        counter,
-        word(&nonce, 0),
-        word(&nonce, 1),
-        word(&nonce, 2),
-    ]
+    State {
+        a: u32x4::from_array([0x61707865, 0x3320646e, 0x79622d32, 0x6b206574]),
+        b: u32x4::from_array([word(&key, 0), word(&key, 1), word(&key, 2), word(&key, 3)]),
+        c: u32x4::from_array([word(&key, 4), word(&key, 5), word(&key, 6), word(&key, 7)]),
+        d: u32x4::from_array([counter, word(&nonce, 0), word(&nonce, 1), word(&nonce, 2)]),
+    }
 }
 
 /// The `k`-th of the words that `bytes` hold.
@@ -55,87 +52,109 @@ fn word(bytes: &[u8], k: usize) -> u32
     requires { 4 * k + 4 ≤ length bytes.now }
     ensures { result ≡ word_at bytes.now k }
 {
-    u32::from_le_bytes([
-        bytes[4 * k],
-        bytes[4 * k + 1],
-        bytes[4 * k + 2],
-        bytes[4 * k + 3],
-    ])
+    u32::from_le_bytes(*bytes[4 * k..].first_chunk().unwrap())
 }
 
 fn block_from(start: State) -> [u8; 64]
-    ensures { result ≡ block_from start }
+    ensures { result ≡ block_from (words start) }
 {
     serialized(added(twenty_rounds(start), start))
 }
 
 fn twenty_rounds(mut s: State) -> State
-    ensures { result ≡ double_rounds 10 s }
+    ensures { words result ≡ double_rounds 10 (words s) }
 {
     for _ in 0..DOUBLE_ROUNDS {
-        column_round(&mut s);
-        diagonal_round(&mut s);
+        s = diagonal_round(column_round(s));
     }
     s
 }
 
-fn column_round(s: &mut State)
-    ensures { s.new ≡ column_round s.old }
+fn column_round(s: State) -> State
+    ensures { words result ≡ column_round (words s) }
 {
-    quarter_round(s, 0, 4, 8, 12);
-    quarter_round(s, 1, 5, 9, 13);
-    quarter_round(s, 2, 6, 10, 14);
-    quarter_round(s, 3, 7, 11, 15);
+    quarter_rounds(s)
 }
 
-fn diagonal_round(s: &mut State)
-    ensures { s.new ≡ diagonal_round s.old }
+/// Turned, the rows have each diagonal in a column.
+fn diagonal_round(s: State) -> State
+    ensures { words result ≡ diagonal_round (words s) }
 {
-    quarter_round(s, 0, 5, 10, 15);
-    quarter_round(s, 1, 6, 11, 12);
-    quarter_round(s, 2, 7, 8, 13);
-    quarter_round(s, 3, 4, 9, 14);
+    let s = quarter_rounds(State {
+        a: s.a,
+        b: s.b.rotate_elements_left::<1>(),
+        c: s.c.rotate_elements_left::<2>(),
+        d: s.d.rotate_elements_left::<3>(),
+    });
+    State {
+        a: s.a,
+        b: s.b.rotate_elements_right::<1>(),
+        c: s.c.rotate_elements_right::<2>(),
+        d: s.d.rotate_elements_right::<3>(),
+    }
 }
 
-/// The quarter round on the words at the places `x`, `y`, `z` and `w`.
-fn quarter_round(s: &mut State, x: usize, y: usize, z: usize, w: usize)
-    requires { (x < 16) × ((y < 16) × ((z < 16) × (w < 16))) }
-    ensures { s.new ≡ quarter_round_at x y z w s.old }
+/// The quarter round of each column.
+fn quarter_rounds(s: State) -> State
+    ensures { (k : ℕ) → k < 4 → column result k ≡ quarter_round (column s k) }
 {
-    (s[x], s[y], s[z], s[w]) = quarter(s[x], s[y], s[z], s[w]);
+    let State { a, b, c, d } = s;
+    let a = sum(a, b);
+    let d = mixed(d, a, 16);
+    let c = sum(c, d);
+    let b = mixed(b, c, 12);
+    let a = sum(a, b);
+    let d = mixed(d, a, 8);
+    let c = sum(c, d);
+    let b = mixed(b, c, 7);
+    State { a, b, c, d }
 }
 
-fn quarter(a: u32, b: u32, c: u32, d: u32) -> (u32, u32, u32, u32)
-    ensures { result ≡ quarter_round (a, b, c, d) }
+fn sum(x: u32x4, y: u32x4) -> u32x4
+    ensures { (k : ℕ) → k < 4 → slice_index result k ≡ plus (slice_index x k) (slice_index y k) }
 {
-    let a = a.wrapping_add(b);
-    let d = (d ^ a).rotate_left(16);
-    let c = c.wrapping_add(d);
-    let b = (b ^ c).rotate_left(12);
-    let a = a.wrapping_add(b);
-    let d = (d ^ a).rotate_left(8);
-    let c = c.wrapping_add(d);
-    let b = (b ^ c).rotate_left(7);
-    (a, b, c, d)
+    x + y
+}
+
+/// The words of `x`, to which those of `y` are added bit by bit, rolled by `n` bits to the left.
+fn mixed(x: u32x4, y: u32x4, n: u32) -> u32x4
+    requires { (0 < n) × (n < 32) }
+    ensures { (k : ℕ) → k < 4 → slice_index result k ≡ rolled n (bit_xor (slice_index x k) (slice_index y k)) }
+{
+    let mixed = x ^ y;
+    (mixed << u32x4::splat(n)) | (mixed >> u32x4::splat(32 - n))
 }
 
 /// The two states added, word by word.
-fn added(mut s: State, t: State) -> State
-    ensures { result ≡ zip2 plus s t }
+fn added(s: State, t: State) -> State
+    ensures { words result ≡ zip2 plus (words s) (words t) }
 {
-    for (i, word) in t.iter().enumerate() {
-        s[i] = s[i].wrapping_add(*word);
+    State {
+        a: sum(s.a, t.a),
+        b: sum(s.b, t.b),
+        c: sum(s.c, t.c),
+        d: sum(s.d, t.d),
     }
-    s
 }
 
 /// The bytes of the words, one word's after the other's.
 fn serialized(s: State) -> [u8; 64]
-    ensures { result ≡ flat_map bytes_of s }
+    ensures { result ≡ flat_map bytes_of (words s) }
 {
     let mut bytes = [0; 64];
-    for (i, word) in s.iter().enumerate() {
-        bytes[4 * i..4 * i + 4].copy_from_slice(&word.to_le_bytes());
-    }
+    let words = words(s).map(u32::to_le_bytes);
+    bytes.copy_from_slice(words.as_flattened());
     bytes
+}
+
+fn words(s: State) -> [u32; 16]
+    ensures { result ≡ words s }
+{
+    let [a0, a1, a2, a3] = s.a.to_array();
+    let [b0, b1, b2, b3] = s.b.to_array();
+    let [c0, c1, c2, c3] = s.c.to_array();
+    let [d0, d1, d2, d3] = s.d.to_array();
+    [
+        a0, a1, a2, a3, b0, b1, b2, b3, c0, c1, c2, c3, d0, d1, d2, d3,
+    ]
 }

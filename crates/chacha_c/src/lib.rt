@@ -1,4 +1,5 @@
 //! The block for callers outside Rattle, as a static library: slices of any length come in, and those of a wrong length are refused.
+//! Kept for the C interface: a `bool` for the refusal, and what `chacha::ffi` has once more, since a crate is a library or a static library.
 #![tactic(auto)]
 
 ghost use Rattle.std.specs.Prelude.{◌≡◌, ◌&&◌, length, if◌then◌else◌, ◌==◌};

@@ -1,11 +1,12 @@
 -- How far one node is below another. Assumes nothing.
-use Rattle.std.proofs.Common.{◌≡◌, ℕ, zero, suc, ◌/◌, ◌^◌, ◌<◌, ◌≤◌, true, false, cond, ◌&&◌, eqb, ltb, ◌⊎◌, Some, None, Option, sym, refl, ap, ◌∙◌, inl, inr, ⊎_elim, arith}
+use Rattle.std.proofs.Common.{◌≡◌, ℕ, zero, suc, ◌+◌, ◌*◌, ◌/◌, ◌^◌, ◌<◌, ◌≤◌, true, false, cond, ◌&&◌, eqb, ltb, Some, None, Option, sym, refl, ap, ◌∙◌, ⊎_elim, pow-suc, pow_pos, arith}
+use Rattle.std.proofs.Math.Pow.{pow_mono}
 use Rattle.std.proofs.lemmas.Bool.{eq-eqb, ne_eqb, lt-ltb, ltb-true, and_parts, and_from, or_right, both_ways, cases_Bool, cases_order, cond-true, cond-false}
 use Rattle.tree.specs.declared.parts.Part.{Part}
 use Rattle.tree.specs.Nodes.{below, in_tree}
 use Rattle.tree.specs.Parts.{is_all, descends, proper}
 use Rattle.tree.proofs.Tests.{not_true, true_T}
-use Rattle.tree.proofs.Up.{up, up_le, up_lt, up_far, Under, below_up, up_below, under_below}
+use Rattle.tree.proofs.Up.{up, up_le, up_far, Under, below_up, up_below, under_below}
 use Rattle.secrecy.proofs.Labels.{proper_is}
 use Rattle.keys.specs.Down.{reaches, steps_down}
 
@@ -39,14 +40,20 @@ module _ (h i j : ℕ) (in_tree_lem : j < 2 ^ suc h) where
       not_true (reaches h i j) (λ t. let w = and_parts (ltb 0 i) (below h i j) t in never (ltb-true 0 i w.0) (below_up h i j w.1)) in
       rw e
 
--- where going up has passed by a node without meeting it, it is not above
-pub passed_by : (i j d : ℕ) → up d j < i → ((m : ℕ) → m < d → i < up m j) → Under i j → ⊥
-passed_by i j d short before (e, p) = go (cases_order e d)
+-- no number lies between two neighbouring powers of two and between two others
+same_power : (n a b : ℕ) → 2 ^ a ≤ n → n < 2 * 2 ^ a → 2 ^ b ≤ n → n < 2 * 2 ^ b → a ≡ b
+same_power n a b al ah bl bh = ⊎_elim (λ e. e) (λ o. ⊎_elim (λ lt. absurd (apart a b lt ah bl)) (λ lt. absurd (apart b a lt bh al)) o) (cases_order a b)
   where
-    go : (e ≡ d) ⊎ ((e < d) ⊎ (d < e)) → ⊥
-    go (inl q) = omega (arith, ap (λ (n : ℕ). up n j) q)
-    go (inr (inl q)) = omega (arith, before e q)
-    go (inr (inr q)) = omega (arith, up_lt d e j q)
+    apart : (a b : ℕ) → a < b → n < 2 * 2 ^ a → 2 ^ b ≤ n → ⊥
+    apart a b lt high low = let le : suc a ≤ b = omega arith in omega (arith, pow_mono le, pow-suc 2 a)
+
+-- how far one node is above another, from how long both are
+pub length_apart : (d i j a b : ℕ) → 2 ^ a ≤ i → i < 2 * 2 ^ a → 2 ^ b ≤ j → j < 2 * 2 ^ b → up d j ≡ i → a + d ≡ b
+unfolding up
+length_apart zero i j a b al ah bl bh e = omega (arith, same_power i a b al ah (omega arith) (omega arith))
+length_apart (suc d) i j a zero al ah bl bh e = absurd (omega (arith, up_le d (j / 2), pow_pos a))
+length_apart (suc d) i j a (suc b) al ah bl bh e =
+    omega (arith, length_apart d i (j / 2) a b al ah (omega (arith, pow-suc 2 b)) (omega (arith, pow-suc 2 b)) e)
 
 -- of two nodes of the tree that are not the same, a part is proper if the one is below the other
 pub proper_two : (h : ℕ) (p : Part) → p.second < 2 ^ suc h → (p.first ≡ p.second → ⊥) → proper h p ≡ reaches h p.first p.second

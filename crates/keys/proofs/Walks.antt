@@ -1,11 +1,10 @@
 -- A walk down from a term: where it stands, and what was asked so far. Assumes nothing.
-use Rattle.std.proofs.Common.{◌≡◌, ℕ, ◌%◌, cond, eqb, List, [], ◌∷◌, take, drop, refl, ap, ◌∙◌}
+use Rattle.std.proofs.Common.{◌≡◌, ℕ, List, [], ◌∷◌, refl, ap, ◌∙◌}
 use Rattle.secrecy.specs.Terms.{Term, side}
 use Rattle.secrecy.specs.Worlds.{World, Point, bytes}
 use Rattle.keys.specs.Asking.{point, Asked}
 use Rattle.keys.specs.Down.{down, passed}
 use Rattle.keys.specs.Promise.{points}
-use Rattle.keys.proofs.Derived.{siding}
 
 module _ {S : Type 0} (steps : S → Point → S → Type 0) (w : World) where
   -- on the way from t through all nodes, with `rest` of them ahead: `label` is that of a term from which the rest leads where the whole way leads,
@@ -16,15 +15,12 @@ module _ {S : Type 0} (steps : S → Point → S → Type 0) (w : World) where
     pub leads : down rest term ≡ down all t
     pub asks : (last : S) → Asked steps here (points w 0 (passed rest term)) last → Asked steps first (points w 0 (passed all t)) last
 
-  pub along_none : (all : List ℕ) (t : Term) (first : S) (label : List ℕ) → label ≡ bytes w t → Along all all t first first label
-  along_none all t first label e = record { term = t; is = e; leads = refl; asks = λ last a. a }
-
   pub along_more : (all rest : List ℕ) (x : ℕ) (t : Term) (first here next : S) (label more : List ℕ) → Along all (x ∷ rest) t first here label → steps here (point label 0) next →
-      more ≡ cond (eqb (x % 2) 0) (take 32 (w.block label 0)) (drop 32 (w.block label 0)) → Along all rest t first next more
+      ((u : Term) → label ≡ bytes w u → more ≡ bytes w (side x u)) → Along all rest t first next more
   along_more all rest x t first here next label more a step e =
       record {
         term = side x a.term;
-        is = e ∙ siding w a.term x label a.is;
+        is = e a.term a.is;
         leads = a.leads;
         asks = λ last b. a.asks last (next, rw a.is at step, b);
       }

@@ -1,7 +1,8 @@
 -- What is promised of bytes that are worked out, and of the questions for them: both are those of terms. Assumes nothing.
-use Rattle.std.specs.Prelude.{◌≡◌, ℕ, ◌-◌, ◌^◌, ◌<◌, cond, T, List, [], ◌∷◌, ◌++◌, map}
+use Rattle.std.specs.Prelude.{◌≡◌, ℕ, ◌<◌, cond, T, List, [], ◌∷◌, ◌++◌, map}
 use Rattle.tree.specs.declared.parts.Part.{Part}
 use Rattle.tree.specs.Nodes.{below}
+pub use Rattle.tree.specs.Numbers.{last_number}
 use Rattle.tree.specs.Parts.{proper}
 use Rattle.secrecy.specs.Terms.{Term, Start, Pad, Check, label, label_of, key}
 use Rattle.secrecy.specs.Worlds.{World, Point, bytes}
@@ -43,7 +44,3 @@ key_points w g h p = points w 0 (passed (nodes_down h p.first p.second) (Start g
 abbrev pub AskedKey : {S : Type 0} → (List ℕ → ℕ → List ℕ) → (S → Point → S → Type 0) → ℕ → Part → List ℕ → S → S → Type 0
 AskedKey f steps h p from s u =
     (d : Draws) (g : ℕ) → from ≡ bytes (world f d) (Start g p.first) → Asked steps s (cond (proper h p) (key_points (world f d) g h p) []) u
-
--- the highest number of a sending
-abbrev pub last_number : ℕ
-last_number = 2 ^ 32 - 3

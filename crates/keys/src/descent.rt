@@ -6,38 +6,28 @@ ghost use Rattle.keys.specs.Down.{reaches, steps_down, last_nodes, nodes_down, d
 ghost use Rattle.keys.specs.Promise.{WorksOut, LabelDown, PartKey, AskedDown, AskedKey};
 
 use crate::Key;
-use crate::blocks::side_bytes;
 use crate::cipher::Cipher;
-use crate::labels::middle;
+use crate::labels::{middle, side};
 use fault::Fault;
 use tree::parts::Part;
 
 /// How many steps node `to` is below node `from`, if it is.
 fn steps_down(from: u32, to: u32) -> Option<u32>
-    ensures steps { (h : ℕ) → to < 2 ^ suc h → result ≡ (if reaches h from to then Some (steps_down h from to) else None) }
-    ensures few { IfSome result (λ n. n < 32) }
+    ensures { (h : ℕ) → to < 2 ^ suc h → result ≡ (if reaches h from to then Some (steps_down h from to) else None) }
 {
-    if from == 0 {
-        return None;
-    }
-    let mut node = to;
-    let mut steps = 0;
-    while node > from {
-        node /= 2;
-        steps += 1;
-    }
-    if node == from { Some(steps) } else { None }
+    let steps = to.checked_ilog2()?.checked_sub(from.checked_ilog2()?)?;
+    (to >> steps == from).then_some(steps)
 }
 
 /// The label so many steps further down, on the way to node `to`.
 fn walk<C: Cipher>(cipher: &mut C, label: Key, to: u32, steps: u32) -> Key
-    requires { steps < 32 }
     ensures term { WorksOut C.Cipher.gives (down (last_nodes steps to)) label result }
     ensures asked { AskedDown C.Cipher.gives C.Cipher.steps (last_nodes steps to) label cipher.old cipher.new }
 {
     let mut here = label;
     for left in (0..steps).rev() {
-        let next = side_bytes(cipher, here, to >> left);
+        // Not `here = side(..)`, for which no proof is generated.
+        let next = side(cipher, here, to.unbounded_shr(left));
         here = next;
     }
     here
@@ -56,13 +46,16 @@ pub fn descend<C: Cipher>(cipher: &mut C, label: Key, from: u32, to: u32) -> Opt
 
 /// How many steps the second node of a proper part is below the first.
 fn steps_within(part: Part) -> Option<u32>
-    ensures steps { (h : ℕ) → part.second < 2 ^ suc h → result ≡ (if proper h part then Some (steps_down h part.first part.second) else None) }
-    ensures few { IfSome result (λ n. n < 32) }
+    ensures { (h : ℕ) → part.second < 2 ^ suc h → result ≡ (if proper h part then Some (steps_down h part.first part.second) else None) }
 {
-    if part.first == part.second {
-        return if part.first == 0 { Some(0) } else { None };
+    match part {
+        Part {
+            first: 0,
+            second: 0,
+        } => Some(0),
+        Part { first, second } if first == second => None,
+        Part { first, second } => steps_down(first, second),
     }
-    steps_down(part.first, part.second)
 }
 
 /// The key of a part, from the start of its first node; that of all receivers comes from the start of 0.
@@ -70,9 +63,7 @@ pub fn part_key<C: Cipher>(cipher: &mut C, start: Key, part: Part) -> Result<Key
     ensures answer { (h : ℕ) → part.second < 2 ^ suc h → MatchResult result (λ k. T (proper h part) × PartKey C.Cipher.gives h part start k) (λ e. (e ≡ ImproperPart) × (proper h part ≡ false)) }
     ensures asked { (h : ℕ) → part.second < 2 ^ suc h → AskedKey C.Cipher.gives C.Cipher.steps h part start cipher.old cipher.new }
 {
-    let Some(steps) = steps_within(part) else {
-        return Err(Fault::ImproperPart);
-    };
+    let steps = steps_within(part).ok_or(Fault::ImproperPart)?;
     let label = walk(cipher, start, part.second, steps);
     Ok(middle(cipher, label))
 }

@@ -1,11 +1,11 @@
 //! What comes from a label or a key, as the bytes of terms. Assumes nothing.
 ghost use Rattle.std.specs.Prelude.{◌≡◌, ◌+◌, ◌<◌, ◌≤◌, [], ◌∷◌, if◌then◌else◌, MatchResult, nat_le};
 ghost use Rattle.fault.specs.declared.Fault.TheVariants.{OutOfRange};
-ghost use Rattle.secrecy.specs.Terms.{Left, Right, Middle};
+ghost use Rattle.secrecy.specs.Terms.{Left, Right, Middle, side};
 ghost use Rattle.keys.specs.Asking.{point, Asked};
 ghost use Rattle.keys.specs.Promise.{WorksOut, PadAndCheck, last_number};
 
-use crate::blocks::{counter_of, middle_bytes, pad_bytes, sides_bytes};
+use crate::blocks::{back, counter_of, front};
 use crate::cipher::Cipher;
 use crate::{Key, Pad};
 use fault::Fault;
@@ -15,7 +15,7 @@ pub fn left<C: Cipher>(cipher: &mut C, label: Key) -> Key
     ensures term { WorksOut C.Cipher.gives Left label result }
     ensures asked { C.Cipher.steps cipher.old (point label 0) cipher.new }
 {
-    sides_bytes(cipher, label).0
+    sides(cipher, label).0
 }
 
 /// The label one step down to the right.
@@ -23,7 +23,7 @@ pub fn right<C: Cipher>(cipher: &mut C, label: Key) -> Key
     ensures term { WorksOut C.Cipher.gives Right label result }
     ensures asked { C.Cipher.steps cipher.old (point label 0) cipher.new }
 {
-    sides_bytes(cipher, label).1
+    sides(cipher, label).1
 }
 
 /// The labels on both sides, for the work of one.
@@ -32,7 +32,20 @@ pub fn sides<C: Cipher>(cipher: &mut C, label: Key) -> (Key, Key)
     ensures right { WorksOut C.Cipher.gives Right label result.1 }
     ensures asked { C.Cipher.steps cipher.old (point label 0) cipher.new }
 {
-    sides_bytes(cipher, label)
+    let block = cipher.block(label, 0);
+    (front(&block), back(&block))
+}
+
+/// The label one step down to `node`.
+pub(crate) fn side<C: Cipher>(cipher: &mut C, label: Key, node: u32) -> Key
+    ensures term { WorksOut C.Cipher.gives (side node) label result }
+    ensures asked { C.Cipher.steps cipher.old (point label 0) cipher.new }
+{
+    if node % 2 == 0 {
+        left(cipher, label)
+    } else {
+        right(cipher, label)
+    }
 }
 
 /// The key that a label gives; of a session key, the show's key.
@@ -40,7 +53,7 @@ pub fn middle<C: Cipher>(cipher: &mut C, label: Key) -> Key
     ensures term { WorksOut C.Cipher.gives Middle label result }
     ensures asked { C.Cipher.steps cipher.old (point label 1) cipher.new }
 {
-    middle_bytes(cipher, label)
+    front(&cipher.block(label, 1))
 }
 
 /// What covers a session key and its check in a header under `key`, in the sending with this number.
@@ -49,5 +62,5 @@ pub fn pad<C: Cipher>(cipher: &mut C, key: Key, number: u32) -> Result<Pad, Faul
     ensures asked { Asked C.Cipher.steps cipher.old (if nat_le number last_number then point key (number + 2) ∷ [] else []) cipher.new }
 {
     let counter = counter_of(number)?;
-    Ok(pad_bytes(cipher, key, counter))
+    Ok(front(&cipher.block(key, counter)))
 }

@@ -11,7 +11,7 @@ pub mod descent;
 pub mod labels;
 pub mod logged;
 
-/// Labels and keys have the size of a cipher's key.
+/// Labels and keys have the size of a cipher's key. An alias, as `Pad` is: a type of its own would ask more of callers, who give arrays.
 pub type Key = [u8; 32];
 
 /// What covers a session key and the sixteen zero bytes after it.

@@ -1,38 +1,34 @@
 //! ChaCha20 with a list of what it was asked, for tests that count blocks. Assumes nothing.
-ghost use Rattle.std.specs.Prelude.{◌≡◌};
+ghost use Rattle.std.specs.Prelude.{◌≡◌, []};
 ghost use Rattle.keys.specs.Drawn.{zero_nonce_block};
-ghost use Rattle.keys.specs.Log.{logs};
+ghost use Rattle.keys.specs.Log.{log_of, logs};
 
 use crate::Key;
-use crate::cipher::{Block, Cipher};
+use crate::cipher::{Block, ChaCha20, Cipher};
+use arrayvec::ArrayVec;
 
 /// How many questions the list has room for.
 const ROOM: usize = 64;
 
-#[derive(Clone, Copy)]
+#[derive(Clone, Copy, Debug, Default, PartialEq, Eq)]
 pub struct Question {
     pub key: Key,
     pub counter: u32,
 }
 
-/// The first `len` of the questions were asked. What is asked when there is no room left is not noted.
-#[derive(Clone, Copy)]
+/// The questions that were asked, the first one first. What is asked when there is no room left is not noted.
+#[derive(Drop)]
 pub struct Logged {
-    pub questions: [Question; ROOM],
-    pub len: usize,
+    pub questions: ArrayVec<Question, ROOM>,
 }
 
 impl Logged {
     /// One that was asked nothing yet.
     pub fn new() -> Logged
-        ensures { result.len ≡ 0 }
+        ensures { log_of result ≡ [] }
     {
         Logged {
-            questions: [Question {
-                key: [0; 32],
-                counter: 0,
-            }; ROOM],
-            len: 0,
+            questions: ArrayVec::new(),
         }
     }
 }
@@ -43,10 +39,7 @@ impl Cipher for Logged {
     ghost steps = { logs };
 
     fn block(&mut self, key: Key, counter: u32) -> Block {
-        if self.len < ROOM {
-            self.questions[self.len] = Question { key, counter };
-            self.len += 1;
-        }
-        chacha::block(key, counter, [0; 12])
+        let _ = self.questions.try_push(Question { key, counter });
+        ChaCha20.block(key, counter)
     }
 }

@@ -4,7 +4,7 @@
 ghost use Rattle.std.specs.Prelude.{◌≡◌, Decides};
 ghost use Rattle.chacha.specs.Rfc8439.{chacha20_block};
 
-use std::io;
+use std::{fmt, io};
 
 /// A block that the RFC prints, and what it is the block of.
 struct TestVector {
@@ -96,26 +96,28 @@ impl TestVector {
     }
 }
 
-fn print_hex(rt: &HostRuntime, bytes: &[u8]) -> io::Result<()> {
-    for byte in bytes {
-        print!(rt; "{byte:02x}")?;
+/// Bytes, two hexadecimal digits each.
+#[derive(Drop)]
+struct Hex<'a>(&'a [u8]);
+
+impl fmt::Display for Hex<'_> {
+    fn fmt<W: fmt::Write>(&self, f: &mut fmt::Formatter<W>) -> fmt::Result {
+        for byte in self.0 {
+            write!(f, "{byte:02x}")?;
+        }
+        Ok(())
     }
-    Ok(())
 }
 
 fn main(rt: HostRuntime) -> io::Result<()> {
-    let mut agreeing = 0usize;
     for vector in &TEST_VECTORS {
         let section = vector.section;
-        print!(rt; "{section}: ")?;
-        print_hex(&rt, &vector.computed())?;
-        if vector.agrees() {
-            agreeing += 1;
-            println!(rt; " agrees")?;
-        } else {
-            println!(rt; " differs")?;
-        }
+        let block = vector.computed();
+        let hex = Hex(&block);
+        let verdict = if vector.agrees() { "agrees" } else { "differs" };
+        println!(rt; "{section}: {hex} {verdict}")?;
     }
+    let agreeing = TEST_VECTORS.iter().filter(|v| v.agrees()).count();
     let all = TEST_VECTORS.len();
     println!(rt; "{agreeing} of {all} agree")
 }

@@ -11,7 +11,7 @@ use Rattle.keys.proofs.descent.descend.Goals as goal
 pub returns : goal.returns
 returns g c =
     let found : (h : ℕ) → c.args.to < 2 ^ suc h → (reaches h c.args.from c.args.to ≡ true) × (c.in_ok-steps.steps ≡ steps_down h c.args.from c.args.to) =
-    λ h l. told (reaches h c.args.from c.args.to) _ _ (c.in_ok-steps.ensures.steps h l) in
+    λ h l. told (reaches h c.args.from c.args.to) _ _ (c.in_ok-steps.ensures h l) in
     record {
       refuses = λ h l. sym (found h l).0;
       term = λ h l d t e. let count = (found h l).1 in rw (← count) (c.walk.ensures.term d t e);
