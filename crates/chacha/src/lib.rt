@@ -47,7 +47,7 @@ fn initial_state(key: [u8; 32], counter: u32, nonce: [u8; 12]) -> State
     }
 }
 
-/// The `k`-th of the words that `bytes` hold.
+/// The `k`-th of the words that `bytes` hold, the low byte of each first. Formats of files have the high one first, and are none of this crate's.
 fn word(bytes: &[u8], k: usize) -> u32
     requires { 4 * k + 4 ≤ length bytes.now }
     ensures { result ≡ word_at bytes.now k }

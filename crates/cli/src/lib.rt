@@ -89,7 +89,7 @@ pub fn end(rt: &HostRuntime, outcome: Result<(), Stop>) -> Result<(), Stop>
     outcome.inspect_err(|stop| report(rt, stop))
 }
 
-/// The same, with the status that the process ends with.
+/// The same, with the status that the process ends with. Each program's `main` is this over what it runs.
 pub fn exit_code(rt: &HostRuntime, outcome: Result<(), Stop>) -> ExitCode
     ensures { exit_status result ≡ (if is_ok outcome then 0 else 1) }
 {

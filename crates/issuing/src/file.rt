@@ -32,6 +32,7 @@ fn write_levels<C: Cipher>(cipher: &mut C, sources: &Sources, out: &mut [u8])
     requires { 40 * (sources.now.height * (sources.now.height + 1) / 2) ≤ length out.old }
     ensures { (d : Draws) (g : ℕ) → StartsAbove (world C.Cipher.gives d) g sources.now.height sources.now.own sources.now.above → Wrote (world C.Cipher.gives d) g sources.now.height (above sources.now.height 1 (sources.now.own / 2) sources.now.own) out.old out.new }
 {
+    // Levels are of different lengths, so the place in the file is counted along.
     let mut at = 0;
     for level in 0..sources.height {
         let steps = level + 1;

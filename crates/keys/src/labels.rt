@@ -10,7 +10,7 @@ use crate::cipher::Cipher;
 use crate::{Key, Pad};
 use fault::Fault;
 
-/// The label one step down to the left.
+/// The label one step down to the left. Left and right have names of their own, as the subject has them; `sides` is what both are made of.
 pub fn left<C: Cipher>(cipher: &mut C, label: Key) -> Key
     ensures term { WorksOut C.Cipher.gives Left label result }
     ensures asked { C.Cipher.steps cipher.old (point label 0) cipher.new }

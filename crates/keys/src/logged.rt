@@ -17,7 +17,7 @@ pub struct Question {
 }
 
 /// The questions that were asked, the first one first. What is asked when there is no room left is not noted.
-#[derive(Drop)]
+#[derive(Clone, Drop)]
 pub struct Logged {
     pub questions: ArrayVec<Question, ROOM>,
 }

@@ -1,6 +1,5 @@
 //! The header of a part: a session key and sixteen zero bytes under the part's key. Assumes nothing.
 ghost use Rattle.std.specs.Prelude.{◌≡◌, ℕ, suc, ◌^◌, ◌<◌, ◌≤◌, T, ◌++◌, replicate, MatchResult};
-ghost use Rattle.tree.specs.Numbers.{last_number};
 ghost use Rattle.tree.specs.Parts.{proper};
 ghost use Rattle.secrecy.specs.Air.{Trial};
 ghost use Rattle.secrecy.specs.Terms.{Start, Session};
@@ -31,7 +30,7 @@ fn under(pad: Pad, session: Key) -> Pad
 
 /// The 48 bytes of a part's header, from the start of the part's first node.
 pub fn header<C: Cipher>(cipher: &mut C, start: Key, part: Part, show: Show) -> Result<Pad, Fault>
-    ensures { (h : ℕ) → part.second < 2 ^ suc h → T (proper h part) → show.number ≤ last_number → MatchResult result (λ b. (d : Draws) (m : Trial) → m.number ≡ show.number → start ≡ bytes (world C.Cipher.gives d) (Start m.tree part.first) → show.session ≡ bytes (world C.Cipher.gives d) (Session m.session) → b ≡ covered (world C.Cipher.gives d) h m part) (λ _. ⊥) }
+    ensures { (h : ℕ) → part.second < 2 ^ suc h → T (proper h part) → MatchResult result (λ b. (d : Draws) (m : Trial) → m.number ≡ show.number → start ≡ bytes (world C.Cipher.gives d) (Start m.tree part.first) → show.session ≡ bytes (world C.Cipher.gives d) (Session m.session) → b ≡ covered (world C.Cipher.gives d) h m part) (λ _. ⊥) }
 {
     let key = part_key(cipher, start, part)?;
     let pad = pad(cipher, key, show.number)?;

@@ -1,6 +1,5 @@
 //! The headers of parts, one behind the other. Assumes nothing.
 ghost use Rattle.std.specs.Prelude.{◌≡◌, ℕ, ◌*◌, ◌≤◌, List, length, MatchResult};
-ghost use Rattle.tree.specs.Numbers.{last_number};
 ghost use Rattle.secrecy.specs.Air.{Trial};
 ghost use Rattle.secrecy.specs.Terms.{Session};
 ghost use Rattle.secrecy.specs.Worlds.{bytes};
@@ -26,7 +25,7 @@ pub fn write_headers<C: Cipher>(
     out: &mut [u8],
 ) -> Result<(), Fault>
     requires { 56 * length parts.now ≤ length out.old }
-    ensures { (h : ℕ) (us s : List ℕ) → HasStarts h us s starts.now → show.number ≤ last_number → AllSendable h us parts.now → MatchResult result (λ _. (d : Draws) (m : Trial) → m.number ≡ show.number → DrawnIn s m.tree h d → show.session ≡ bytes (world C.Cipher.gives d) (Session m.session) → WroteHeaders (world C.Cipher.gives d) h m parts.now out.old out.new) (λ _. ⊥) }
+    ensures { (h : ℕ) (us s : List ℕ) → HasStarts h us s starts.now → AllSendable h us parts.now → MatchResult result (λ _. (d : Draws) (m : Trial) → m.number ≡ show.number → DrawnIn s m.tree h d → show.session ≡ bytes (world C.Cipher.gives d) (Session m.session) → WroteHeaders (world C.Cipher.gives d) h m parts.now out.old out.new) (λ _. ⊥) }
 {
     for (i, part) in parts.iter().enumerate() {
         let Some(start) = starts.of(part.first) else {

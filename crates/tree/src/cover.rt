@@ -30,7 +30,7 @@ fn count_left(at: Subtree, receivers: &[u32]) -> usize
     ensures within { result ≤ length receivers.now }
     ensures cut { Cut receivers.now result (first_below at.height (at.levels - 1) (2 * at.node + 1)) }
 {
-    count_before(receivers, at.right().first_receiver())
+    count_before(receivers, at.side(2 * at.node + 1).first_receiver())
 }
 
 /// Writes the part that closes `side` where `node` is named below it, unless that is the side's own node.
@@ -65,8 +65,8 @@ fn cover_branch(at: Subtree, side: u32, revoked: &[u32], free: &mut [Part]) -> u
         return close_side(side, at.node, free);
     }
     let split = count_left(at, revoked);
-    let left = at.left();
-    let right = at.right();
+    let left = at.side(2 * at.node);
+    let right = at.side(2 * at.node + 1);
     if split == 0 {
         return cover_branch(right, side, revoked, free);
     }
@@ -87,7 +87,8 @@ pub fn has_room(revoked: usize, room: usize) -> bool
     room > 0 && revoked <= (room - 1) / 2 + 1
 }
 
-/// Writes the parts that cover all receivers but the revoked to the front of `out`, and answers how many they are.
+/// Writes the parts that cover all receivers but the revoked to the front of `out`, which is lent since no heap is needed, and answers how many they
+/// are.
 pub fn cover(height: u8, revoked: &[u32], out: &mut [Part]) -> Result<usize, Refusal>
     ensures answer { result ≡ cover_answer height revoked.now (length out.old) }
     ensures memory { out.new ≡ afterwards result (cover height revoked.now) out.old }

@@ -51,6 +51,7 @@ pub fn fault_in<L: ReceiverList>(height: u8, receivers: &L) -> Option<Fault>
     };
     let mut fault = None;
     let mut least = 0;
+    // A list is known by its count and places wherever it is kept, so it is gone through by them.
     for i in 0..receivers.count() {
         let receiver = receivers.at(i);
         fault = lower_of(fault, fault_of_next(receiver, least, height.receivers()));

@@ -1,5 +1,5 @@
 //! A node with all that is below it. Assumes nothing.
-ghost use Rattle.std.specs.Prelude.{◌≡◌, ◌+◌, ◌-◌, ◌*◌, ◌<◌, ◌≤◌};
+ghost use Rattle.std.specs.Prelude.{◌≡◌, ◌+◌, ◌-◌, ◌/◌, ◌<◌, ◌≤◌};
 ghost use Rattle.tree.specs.Nodes.{Stands, first_below};
 
 use crate::heights::Height;
@@ -27,31 +27,18 @@ impl Subtree {
         }
     }
 
-    /// The left side of a node that is not at the bottom.
-    pub fn left(self) -> Subtree
-        requires { 0 < self.levels }
+    /// The side of a node that is not at the bottom at whose top this node stands.
+    pub fn side(self, node: u32) -> Subtree
+        requires inner { 0 < self.levels }
+        requires beneath { node / 2 ≡ self.node }
         ensures height { result.height ≡ self.height }
         ensures levels { result.levels ≡ self.levels - 1 }
-        ensures node { result.node ≡ 2 * self.node }
+        ensures node { result.node ≡ node }
     {
         Subtree {
             height: self.height,
             levels: self.levels - 1,
-            node: 2 * self.node,
-        }
-    }
-
-    /// The right side of a node that is not at the bottom.
-    pub fn right(self) -> Subtree
-        requires { 0 < self.levels }
-        ensures height { result.height ≡ self.height }
-        ensures levels { result.levels ≡ self.levels - 1 }
-        ensures node { result.node ≡ 2 * self.node + 1 }
-    {
-        Subtree {
-            height: self.height,
-            levels: self.levels - 1,
-            node: 2 * self.node + 1,
+            node,
         }
     }
 

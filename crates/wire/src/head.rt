@@ -42,7 +42,7 @@ pub fn read_height(kind: Kind, bytes: &[u8]) -> Result<Height, Fault>
     height_in(kind.number(), bytes)
 }
 
-/// The same, by the number of the kind.
+/// The same, for whoever has numbers and no types of them.
 pub fn read_head(kind: u8, bytes: &[u8]) -> Result<u8, Fault>
     ensures { result ≡ judged (head_faults kind bytes.now) (slice_index bytes.now 1) }
 {

@@ -45,7 +45,7 @@ pub fn entry_bytes(place: Part, label: [u8; 32]) -> [u8; ENTRY]
     entry(place, label)
 }
 
-/// The front of a receiver's file, up to the start of 0.
+/// The front of a receiver's file, up to the start of 0. Behind kind and height it has nothing in common with that of a sending.
 pub fn head_bytes(height: u8, receiver: u32, start: [u8; 32]) -> [u8; HEAD]
     ensures { result ≡ labels_head height receiver start }
 {

@@ -16,7 +16,7 @@ pub const MAX_REVOKED: usize = 4096;
 /// The most parts that cover all receivers but those of a list.
 pub const MAX_PARTS: usize = 2 * MAX_REVOKED - 1;
 
-/// What a revocation list says besides its receivers.
+/// What a revocation list says besides its receivers. These stand in lent memory, since reading a list needs no heap.
 #[derive(Clone, Copy)]
 pub struct Revocation {
     pub height: u8,
@@ -57,7 +57,7 @@ fn copy_words(from: Words, to: &mut [u32; MAX_REVOKED])
     requires { length (words from.bytes.now) ≤ max_revoked }
     ensures { to.new ≡ over (words from.entry.bytes.now) to.old }
 {
-    // A list is known by its count and places wherever it is kept, so it is gone through by them.
+    // As in judging them, receivers are gone through by count and place.
     for i in 0..from.count() {
         to[i] = from.at(i);
     }

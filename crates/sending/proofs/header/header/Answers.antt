@@ -6,7 +6,7 @@ use Rattle.sending.proofs.Covering.{under_terms}
 use Rattle.sending.proofs.header.header.Goals as goal
 
 pub returns : goal.returns
-returns g c h low proper within d m e start session =
+returns g c h low proper d m e start session =
     let w = world g.C.Cipher.gives d in
     let k = key m.tree h c.args.part in
     let at_key = (c.in_ok-key.ensures.answer h low).1 d m.tree start in

@@ -1,6 +1,5 @@
 -- As many headers are written as the loop has had turns.
-use Rattle.std.proofs.Common.{◌≡◌, ℕ, ◌≤◌, List}
-use Rattle.tree.specs.Numbers.{last_number}
+use Rattle.std.proofs.Common.{◌≡◌, ℕ, List}
 use Rattle.secrecy.specs.Air.{Trial}
 use Rattle.secrecy.specs.Terms.{Session}
 use Rattle.secrecy.specs.Worlds.{bytes}
@@ -13,6 +12,6 @@ use Rattle.sending.proofs.headers.write_headers.Given as goal
 
 abbrev pub invariant-loop-i : goal.invariant-loop-i
 invariant-loop-i g l =
-    (h : ℕ) (us s : List ℕ) → HasStarts h us s l.starts → l.show.number ≤ last_number → AllSendable h us l.parts →
+    (h : ℕ) (us s : List ℕ) → HasStarts h us s l.starts → AllSendable h us l.parts →
     (d : Draws) (m : Trial) → m.number ≡ l.show.number → DrawnIn s m.tree h d → l.show.session ≡ bytes (world g.C.Cipher.gives d) (Session m.session) →
     Filled (world g.C.Cipher.gives d) h m l.parts l.initial.out l.i l.out

@@ -30,8 +30,8 @@ returns-in_err-write_headers-clause-written g c s has =
     let rs = c.args.revoked.now in
     let e = c.in_ok-count.ensures in
     let noted = noted_is k rs c.args.parts.now c.cover_rest.new.parts c.in_ok-count.count e.answer e.memory in
-    let (low, none) = order_sound k c.args.show.number rs c.requires.sound in
-    absurd (c.in_err-write_headers.ensures k rs s has low (subst (AllSendable k rs) (sym noted) (all_sendable k rs (sound k rs none).1)))
+    let none = (order_sound k c.args.show.number rs c.requires.sound).1 in
+    absurd (c.in_err-write_headers.ensures k rs s has (subst (AllSendable k rs) (sym noted) (all_sendable k rs (sound k rs none).1)))
 
 pub returns : goal.returns
 returns g c =
@@ -42,7 +42,7 @@ returns g c =
     let count = count_is k rs c.args.parts.now c.cover_rest.new.parts c.in_ok-count.count e.answer e.memory in
     let noted = noted_is k rs c.args.parts.now c.cover_rest.new.parts c.in_ok-count.count e.answer e.memory in
     let few = few_noted k rs c.args.parts.now c.cover_rest.new.parts c.in_ok-count.count e.answer e.memory in
-    let (low, none) = order_sound k c.args.show.number rs c.requires.sound in
+    let none = (order_sound k c.args.show.number rs c.requires.sound).1 in
     let front = c.copy_from_slice.ensures.after ∙ c.head_bytes.ensures in
     record {
       within = omega (arith, count, few);
@@ -51,7 +51,7 @@ returns g c =
             count,
             e.memory,
             λ d m o.
-                let wrote = c.in_ok-write_headers.ensures k rs s has low (subst (AllSendable k rs) (sym noted) (all_sendable k rs (sound k rs none).1)) d (as_trial k m) o.number o.starts o.session in
+                let wrote = c.in_ok-write_headers.ensures k rs s has (subst (AllSendable k rs) (sym noted) (all_sendable k rs (sound k rs none).1)) d (as_trial k m) o.number o.starts o.session in
                 let parts = noted ∙ ap (cover k) (sym o.revoked) in
                 let head = ap (λ (l : List ℕ). l ++ drop 10 before) (front ∙ ap (λ (n : ℕ). sending_head k n c.in_ok-count.count) (sym o.number) ∙ ap (sending_head k m.number) (count ∙ ap (λ (r : List ℕ). length (cover k r)) (sym o.revoked))) in
                 sent_in (world g.C.Cipher.gives d) k m before _ c.write_headers.new.out head (rw parts at wrote),

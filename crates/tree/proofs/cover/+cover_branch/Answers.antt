@@ -32,14 +32,14 @@ count_left-split-requires t c = record { inner = omega arith; rising = rising_we
 pub cover_branch-requires : goal.cover_branch-requires
 cover_branch-requires t c =
     let b = beneath c.args.at c.args.revoked.now c.requires.rising c.requires.below in
-    let r = c.right-right.ensures in
+    let r = c.side-right.ensures in
     let s = rw c.if-split-eq0.true at (on_right b (omega arith) c.count_left-split.ensures.cut) in
     (omega arith, (same_rise r.height r.levels r.node s, (same_low r.height r.levels r.node s, c.requires.room)))
 
 pub returns-then-split-eq0 : goal.returns-then-split-eq0
 returns-then-split-eq0 t c =
     let b = beneath c.args.at c.args.revoked.now c.requires.rising c.requires.below in
-    let r = c.right-right.ensures in
+    let r = c.side-right.ensures in
     let w = all_right b (omega arith) c.count_left-split.ensures.cut c.if-split-eq0.true in
     let v = same_work r.height r.levels r.node c.args.revoked.now in
     rw (w, ← v) record { wrote = c.cover_branch.ensures.wrote; count = c.cover_branch.ensures.count }
@@ -47,7 +47,7 @@ returns-then-split-eq0 t c =
 pub cover_branch-requires-then-split-revoked : goal.cover_branch-requires-then-split-revoked
 cover_branch-requires-then-split-revoked t c =
     let b = beneath c.args.at c.args.revoked.now c.requires.rising c.requires.below in
-    let l = c.left-left.ensures in
+    let l = c.side-left.ensures in
     let all = take_all c.count_left-split.result c.args.revoked.now (omega arith) in
     let s = rw all at (on_left b (omega arith) c.count_left-split.ensures.cut) in
     (omega arith, (same_rise l.height l.levels l.node s, (same_low l.height l.levels l.node s, c.requires.room)))
@@ -55,7 +55,7 @@ cover_branch-requires-then-split-revoked t c =
 pub returns-then-split-revoked : goal.returns-then-split-revoked
 returns-then-split-revoked t c =
     let b = beneath c.args.at c.args.revoked.now c.requires.rising c.requires.below in
-    let l = c.left-left.ensures in
+    let l = c.side-left.ensures in
     let w = all_left b (omega arith) c.count_left-split.ensures.cut c.if-split-revoked.true in
     let v = same_work l.height l.levels l.node c.args.revoked.now in
     rw (w, ← v) record { wrote = c.cover_branch-then-split-revoked.ensures.wrote; count = c.cover_branch-then-split-revoked.ensures.count }
@@ -78,7 +78,7 @@ fork t c =
 pub cover_branch-on_left-requires : goal.cover_branch-on_left-requires
 cover_branch-on_left-requires t c =
     let f = fork t (goal.at.cover_branch-on_left-requires t c).After-close_side-closing in
-    let l = c.left-left.ensures in
+    let l = c.side-left.ensures in
     let s = on_left f.beneath f.inner f.cut in
     rw (take_front c.args.revoked.now c.count_left-split.result)
     (omega arith, (same_rise l.height l.levels l.node s, (same_low l.height l.levels l.node s, room_left f)))
@@ -87,7 +87,7 @@ cover_branch-on_left-requires t c =
 left_count : (t : ℕ) (c : goal.After-cover_branch-on_left t) →
     c.cover_branch-on_left.result ≡ length (closed (2 * c.args.at.node) (work c.args.at.height (take c.count_left-split.result c.args.revoked.now) (c.args.at.levels - 1) (2 * c.args.at.node)))
 left_count t c =
-    let l = c.left-left.ensures in
+    let l = c.side-left.ensures in
     same_count l.height l.levels l.node (take_front c.args.revoked.now c.count_left-split.result) c.cover_branch-on_left.ensures.count
 
 left_end : (t : ℕ) (c : goal.After-cover_branch-on_left t) →
@@ -95,7 +95,7 @@ left_end : (t : ℕ) (c : goal.After-cover_branch-on_left t) →
     ≡ over (closed (2 * c.args.at.node) (work c.args.at.height (take c.count_left-split.result c.args.revoked.now) (c.args.at.levels - 1) (2 * c.args.at.node)))
     (take (length c.close_side-closing.new.free - c.close_side-closing.result) (drop c.close_side-closing.result c.close_side-closing.new.free))
 left_end t c =
-    let l = c.left-left.ensures in
+    let l = c.side-left.ensures in
     same_written l.height l.levels l.node _ (take_front c.args.revoked.now c.count_left-split.result) c.cover_branch-on_left.ensures.wrote
 
 used_within : (t : ℕ) (c : goal.After-cover_branch-on_left t) →
@@ -133,7 +133,7 @@ pub cover_branch-on_right-requires : goal.cover_branch-on_right-requires
 cover_branch-on_right-requires t c =
     let f = fork t (goal.at.cover_branch-on_right-requires t c).After-close_side-closing in
     let d = (goal.at.cover_branch-on_right-requires t c).After-cover_branch-on_left in
-    let r = c.right-right.ensures in
+    let r = c.side-right.ensures in
     let s = on_right f.beneath f.inner f.cut in
     rw (take_rest c.args.revoked.now c.count_left-split.result)
     (omega arith, (same_rise r.height r.levels r.node s, (same_low r.height r.levels r.node s, room_right f (left_count t d) (left_end t d))))
@@ -142,7 +142,7 @@ pub overflow_add-result : goal.overflow_add-result
 overflow_add-result t c =
     let f = fork t (goal.at.overflow_add-result t c).After-close_side-closing in
     let d = (goal.at.overflow_add-result t c).After-cover_branch-on_left in
-    let r = c.right-right.ensures in
+    let r = c.side-right.ensures in
     let rest = take_rest c.args.revoked.now c.count_left-split.result in
     let more = same_count r.height r.levels r.node rest c.cover_branch-on_right.ensures.count in
     let le = total_le f (left_count t d) (left_end t d) more in
@@ -152,7 +152,7 @@ pub returns : goal.returns
 returns t c =
     let f = fork t (goal.at.returns t c).After-close_side-closing in
     let d = (goal.at.returns t c).After-cover_branch-on_left in
-    let r = c.right-right.ensures in
+    let r = c.side-right.ensures in
     let rest = take_rest c.args.revoked.now c.count_left-split.result in
     let more = same_count r.height r.levels r.node rest c.cover_branch-on_right.ensures.count in
     let tail = same_written r.height r.levels r.node _ rest c.cover_branch-on_right.ensures.wrote in

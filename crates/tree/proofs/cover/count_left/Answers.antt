@@ -6,7 +6,7 @@ use Rattle.tree.proofs.cover.count_left.Goals as goal
 
 pub returns : goal.returns
 returns c =
-    let right = c.right.ensures in
+    let right = c.side.ensures in
     let first = same_first right.height right.levels right.node in
     record {
       within = c.count_before.ensures.within;
