@@ -9,8 +9,7 @@ use Rattle.tree.specs.Receivers.{rising}
 use Rattle.tree.proofs.Slices.{ascends, rising_drop}
 use Rattle.starts.specs.declared.start.Start.{Start}
 use Rattle.starts.specs.Format.{start_at}
-use Rattle.starts.specs.Window.{window}
-use Rattle.starts.specs.Window.{nodes_of, AsRead, Complete}
+use Rattle.starts.specs.Window.{window, AsRead, nodes_of, Complete}
 
 -- of the starts, the first k have what a piece more has of them, and the others are as they were
 pub record Half (s p nodes : List ℕ) (k : ℕ) (starts : List Start) : Type 0 where

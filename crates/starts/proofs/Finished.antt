@@ -1,7 +1,7 @@
 -- A file that was read to its end without a fault, and the starts that are kept of it. Assumes nothing.
 use Rattle.std.proofs.Common.{◌≡◌, ℕ, zero, suc, ◌^◌, ◌<◌, ◌≤◌, Bool, true, false, not, T, eqb, List, [], ◌∷◌, ◌++◌, length, get_or, drop, replicate, Option, sym, refl, ap, ◌∙◌, ⊎_elim, pow-suc, arith, pow_pos}
 use Rattle.std.proofs.lemmas.List.{append-nil, drop_all, length-drop, length-map, length-replicate, length-take}
-use Rattle.std.proofs.lemmas.Bool.{eq-eqb, eqb-true, not-false, or_cases, or_left, or_right}
+use Rattle.std.proofs.lemmas.Bool.{eq-eqb, eqb-true, ltb-true, not-false, or_cases, or_left, or_right}
 use Rattle.std.specs.List.{All}
 use Rattle.fault.specs.declared.Fault.{Fault}
 use Rattle.fault.specs.declared.Fault.TheVariants.{Malformed, OutOfRange}
@@ -9,15 +9,15 @@ use Rattle.fault.specs.Lowest.{when, lower, lowest}
 use Rattle.fault.proofs.Lowest.{lowest_append}
 use Rattle.tree.specs.Nodes.{leaf}
 use Rattle.tree.specs.Receivers.{all_below, is_in, list_faults}
+use Rattle.tree.proofs.Judged.{below_in}
 use Rattle.tree.proofs.Up.{up_le}
 use Rattle.wire.specs.Head.{or_else, head_faults}
 use Rattle.starts.specs.Format.{start_at, start_in, starts_size, starts_faults, asked_faults}
 use Rattle.starts.specs.Kept.{above_some, KeptNodes}
 use Rattle.starts.specs.declared.start.Start.{Start}
-use Rattle.starts.specs.Window.{window}
-use Rattle.starts.specs.Window.{nodes_of, AsRead}
+use Rattle.starts.specs.Window.{window, AsRead, nodes_of}
 use Rattle.starts.proofs.Filled.{node_at}
-use Rattle.starts.proofs.Members.{above_some_lem, is_in_below}
+use Rattle.starts.proofs.Members.{above_some_lem}
 use Rattle.starts.proofs.Pushed.{faultless}
 use Rattle.starts.proofs.Windows.{window_at}
 
@@ -38,15 +38,15 @@ module _ (h : ℕ) (us s head : List ℕ) (height : ℕ) (same : height ≡ h) (
 
 append_none : (xs ys : List Fault) → xs ++ ys ≡ [] → (xs ≡ []) × (ys ≡ [])
 append_none [] ys e = (refl, e)
-append_none (x ∷ xs) ys e = absurd (let z : ◌≡◌ {A = ℕ} 0 1 = cc in omega arith)
+append_none (x ∷ xs) ys e = absurd cc
 
 when_none : (b : Bool) (f : Fault) → when b f ≡ [] → b ≡ false
-when_none true f e = absurd (let z : ◌≡◌ {A = ℕ} 0 1 = cc in omega arith)
+when_none true f e = absurd cc
 when_none false f e = refl
 
 or_else_none : (fs more : List Fault) → or_else fs more ≡ [] → more ≡ []
 or_else_none [] more e = e
-or_else_none (f ∷ fs) more e = absurd (let z : ◌≡◌ {A = ℕ} 0 1 = cc in omega arith)
+or_else_none (f ∷ fs) more e = absurd cc
 
 -- no fault where two numbers must be the same
 same_number_lem : (a b : ℕ) (f : Fault) → when (not (eqb a b)) f ≡ [] → a ≡ b
@@ -95,7 +95,7 @@ module _ (h : ℕ) (us s : List ℕ) (none : asked_faults h us s ≡ []) where
     low j l =
         let i = get_or (nodes_of starts) j 0 in
         ⊎_elim (λ z. omega (arith, eqb-true i 0 z, pow_pos (suc h)))
-        (λ a. let w = above_some_lem h us i inside a in omega (arith, w.5, up_le w.1 (leaf h w.0), is_in_below (2 ^ h) w.0 us inside w.2, pow-suc 2 h))
+        (λ a. let w = above_some_lem h us i inside a in omega (arith, w.5, up_le w.1 (leaf h w.0), ltb-true w.0 (2 ^ h) (below_in (2 ^ h) us w.0 inside w.2), pow-suc 2 h))
         (or_cases (eqb i 0) (above_some h us i) (sym (kept.exact i) ∙ is_in_at (nodes_of starts) j l))
 
     pub starts_are : All (AsRead s) starts → All (λ (start : Start). start.bytes ≡ start_in s start.node) starts

@@ -1,15 +1,8 @@
 -- One start more is filled, and the first that is not complete is the last of which there is anything.
-use Rattle.std.proofs.Common.{[], rules, arith, length-append}
+use Rattle.std.proofs.Common.{[], arith, length-append}
 use Rattle.starts.specs.Window.{nodes_of}
 use Rattle.starts.proofs.Filled.{same_nodes, half_more, half_last}
 use Rattle.starts.proofs.filling.fill_starts.Goals as goal
-
-pub loop-k-init : goal.loop-k-init
-loop-k-init c =
-    record {
-      nodes = search rules;
-      filled = λ s at all. record { filled = λ k d _ l. absurd (omega arith); left = λ k d _ l. all k d l; complete = λ k l. absurd (omega arith) };
-    }
 
 pub loop-k-preserved : goal.loop-k-preserved
 loop-k-preserved c =

@@ -1,8 +1,7 @@
 -- The starts before the one at hand have what the piece has of them, and are complete; the others are as they were.
 use Rattle.std.proofs.Common.{◌≡◌, ℕ, List}
 use Rattle.std.specs.List.{All}
-use Rattle.starts.specs.Window.{counted}
-use Rattle.starts.specs.Window.{nodes_of, AsRead}
+use Rattle.starts.specs.Window.{counted, AsRead, nodes_of}
 use Rattle.starts.proofs.Filled.{Half}
 use Rattle.starts.proofs.filling.fill_starts.Given as goal
 

@@ -4,13 +4,10 @@ use Rattle.starts.proofs.Pushed.{faultless, below_at, pushed_all, pushed_new, pu
 use Rattle.starts.proofs.asked.Asked.push_level.Goals as goal
 use Rattle.starts.proofs.asked.Asked.push_level.Goals.{then-node-last+in_ok-push, else-node-last}
 
-pub node_on-node-requires : goal.node_on-node-requires
-node_on-node-requires c =
+pub node_on-node-requires-clause-receiver : goal.node_on-node-requires-clause-receiver
+node_on-node-requires-clause-receiver c =
     let sound = faultless c.args.self.height.levels c.args.self.receivers.now c.args.self.faultless in
-    record {
-      level = c.requires;
-      receiver = below_at _ c.args.self.receivers.now c.loop-receiver.receiver-index sound.1 c.loop-receiver-test.true;
-    }
+    below_at _ c.args.self.receivers.now c.loop-receiver.receiver-index sound.1 c.loop-receiver-test.true
 
 pub loop-receiver-preserved : goal.loop-receiver-preserved
 loop-receiver-preserved c =
