@@ -23,7 +23,7 @@ fn fill_start(start: &mut Start, piece: Piece)
     piece.copy_to(start_at(start.node), &mut start.bytes);
 }
 
-/// Copies what a piece has of some starts, of which none is complete. Answers how many are complete then.
+/// Copies what a piece has of some starts, and answers how many, from the first on, are complete then.
 pub fn fill_starts(starts: &mut [Start], piece: Piece) -> usize
     ensures within { result ≤ length starts.new }
     ensures nodes { nodes_of starts.new ≡ nodes_of starts.old }

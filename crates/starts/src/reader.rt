@@ -12,7 +12,7 @@ pub struct StartsReader {
     pub(crate) head: [u8; 2],
     pub(crate) at: usize,
     pub(crate) done: usize,
-    /// The lowest fault of the receivers for whom it is read.
+    /// The lowest fault of the receivers for whom it is read; if there is one, no starts are kept.
     pub(crate) asked: Option<Fault>,
     ghost within: { done ≤ vec_len starts },
 }
