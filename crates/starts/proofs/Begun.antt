@@ -1,30 +1,27 @@
--- What is kept before anything is read. Assumes nothing.
-use Rattle.std.proofs.Common.{◌≡◌, ℕ, suc, ◌+◌, ◌*◌, ◌^◌, ◌≤◌, List, [], ◌∷◌, ◌++◌, length, replicate, sym, refl, ap, ◌∙◌, ap₂, mul-le-mul, arith, pow_mono}
-use Rattle.std.proofs.lemmas.List.{get_or_past, get_or-replicate, length-replicate, replicate-append-replicate}
-use Rattle.tree.specs.Nodes.{max_height}
-use Rattle.tree.specs.Receivers.{list_faults}
-use Rattle.tree.proofs.Judged.{rising_short}
+-- Starts before anything is read. Assumes nothing.
+use Rattle.std.proofs.Common.{◌≡◌, ℕ, List, [], ◌∷◌, get_or, map, replicate, ap, refl, arith}
+use Rattle.std.specs.List.{All}
+use Rattle.std.proofs.lemmas.List.{drop_all}
+use Rattle.std.proofs.lemmas.List.Elements.{All-map}
+use Rattle.starts.specs.declared.start.Start.{Start}
 use Rattle.starts.specs.Format.{start_at}
 use Rattle.starts.specs.Kept.{KeptNodes}
-use Rattle.starts.specs.Window.{window, cells}
-use Rattle.starts.proofs.Pushed.{faultless}
-use Rattle.starts.proofs.Windows.{window_from}
-
-pub few_nodes : (h : ℕ) (us nodes : List ℕ) → list_faults h us ≡ [] → KeptNodes h us nodes → length nodes ≤ 1 + max_height * 2 ^ max_height
-few_nodes h us nodes none kept =
-    let sound = faultless h us none in
-    let few : length us ≤ 2 ^ max_height = omega (arith, rising_short 0 (2 ^ h) us sound.2 sound.1, pow_mono {i = h} {j = max_height} sound.0) in
-    omega (arith, kept.few, mul-le-mul sound.0 few)
+use Rattle.starts.specs.Window.{nodes_of, AsRead}
 
 -- nothing but zeros
-window_none : (b n : ℕ) → window b n [] ≡ replicate n 0
-window_none b n = sym (window_from b n [] (replicate n 0) (length-replicate n 0) (λ k l. get_or-replicate n k 0 0 l ∙ sym (get_or_past [] (b + k) 0 (omega arith))))
+abbrev pub unread : ℕ → Start
+unread i = record { node = i; bytes = replicate 32 0 }
 
-cells_none : (nodes : List ℕ) → cells [] nodes ≡ replicate (32 * length nodes) 0
-cells_none [] = refl
-cells_none (i ∷ nodes) =
-    ap₂ ◌++◌ (window_none (start_at i) 32) (cells_none nodes) ∙ replicate-append-replicate 32 (32 * length nodes) 0
-    ∙ ap (λ (n : ℕ). replicate n 0) {x = 32 + 32 * length nodes} {y = 32 * suc (length nodes)} (omega arith)
+same_nodes : (nodes : List ℕ) → nodes_of (map unread nodes) ≡ nodes
+same_nodes [] = refl
+same_nodes (i ∷ nodes) = ap (λ (xs : List ℕ). i ∷ xs) (same_nodes nodes)
 
-pub cells_begun : (n : ℕ) (nodes bytes : List ℕ) → n ≡ length nodes → bytes ≡ replicate (32 * n) 0 → bytes ≡ cells [] nodes
-cells_begun n nodes bytes e is = is ∙ ap (λ (m : ℕ). replicate (32 * m) 0) e ∙ sym (cells_none nodes)
+unread_is : (i : ℕ) → AsRead [] (unread i)
+unread_is i = rw (drop_all {X = ℕ} (start_at i) [] (omega arith)) refl
+
+pub begun : (h : ℕ) (us nodes : List ℕ) (starts : List Start) → KeptNodes h us nodes → starts ≡ map unread nodes → KeptNodes h us (nodes_of starts) × All (AsRead []) starts
+begun h us nodes starts kept e =
+    rw e (
+      rw (same_nodes nodes) kept,
+      All-map (AsRead []) unread nodes (λ k d l. unread_is (get_or nodes k d)),
+    )

@@ -1,22 +1,23 @@
 -- A file that was read to its end without a fault, and the starts that are kept of it. Assumes nothing.
-use Rattle.std.proofs.Common.{◌≡◌, ℕ, zero, suc, ◌+◌, ◌*◌, ◌^◌, ◌<◌, ◌≤◌, true, not, T, eqb, List, [], ◌∷◌, ◌++◌, length, get_or, take, drop, replicate, Option, sym, refl, ap, ◌∙◌, ⊎_elim, pow-suc, mul-zero, mul-suc, arith, pow_pos}
-use Rattle.std.proofs.lemmas.List.{append-nil, drop_all, drop_at, drop-drop, length-drop, length-replicate, length-take, take_at}
-use Rattle.std.proofs.lemmas.Bool.{eq-eqb, eqb-true, not-false, or_cases, or_left, or_right}
-use Rattle.std.specs.List.{flat_map}
+use Rattle.std.proofs.Common.{◌≡◌, ℕ, zero, suc, ◌^◌, ◌<◌, ◌≤◌, Bool, true, false, not, T, eqb, List, [], ◌∷◌, ◌++◌, length, get_or, drop, replicate, Option, sym, refl, ap, ◌∙◌, ⊎_elim, pow-suc, arith, pow_pos}
+use Rattle.std.proofs.lemmas.List.{append-nil, drop_all, length-drop, length-map, length-replicate, length-take}
+use Rattle.std.proofs.lemmas.Bool.{eq-eqb, eqb-true, ltb-true, not-false, or_cases, or_left, or_right}
+use Rattle.std.specs.List.{All}
 use Rattle.fault.specs.declared.Fault.{Fault}
 use Rattle.fault.specs.declared.Fault.TheVariants.{Malformed, OutOfRange}
 use Rattle.fault.specs.Lowest.{when, lower, lowest}
 use Rattle.fault.proofs.Lowest.{lowest_append}
 use Rattle.tree.specs.Nodes.{leaf}
 use Rattle.tree.specs.Receivers.{all_below, is_in, list_faults}
+use Rattle.tree.proofs.Judged.{below_in}
 use Rattle.tree.proofs.Up.{up_le}
-use Rattle.wire.specs.Head.{head_faults}
+use Rattle.wire.specs.Head.{or_else, head_faults}
 use Rattle.starts.specs.Format.{start_at, start_in, starts_size, starts_faults, asked_faults}
 use Rattle.starts.specs.Kept.{above_some, KeptNodes}
-use Rattle.starts.specs.Window.{window, cells}
-use Rattle.starts.proofs.Ends.{when_none, or_else_none}
-use Rattle.starts.proofs.Filled.{joined_same}
-use Rattle.starts.proofs.Members.{above_some_lem, is_in_below}
+use Rattle.starts.specs.declared.start.Start.{Start}
+use Rattle.starts.specs.Window.{window, AsRead, nodes_of}
+use Rattle.starts.proofs.Filled.{node_at}
+use Rattle.starts.proofs.Members.{above_some_lem}
 use Rattle.starts.proofs.Pushed.{faultless}
 use Rattle.starts.proofs.Windows.{window_at}
 
@@ -37,7 +38,15 @@ module _ (h : ℕ) (us s head : List ℕ) (height : ℕ) (same : height ≡ h) (
 
 append_none : (xs ys : List Fault) → xs ++ ys ≡ [] → (xs ≡ []) × (ys ≡ [])
 append_none [] ys e = (refl, e)
-append_none (x ∷ xs) ys e = absurd (let z : ◌≡◌ {A = ℕ} 0 1 = cc in omega arith)
+append_none (x ∷ xs) ys e = absurd cc
+
+when_none : (b : Bool) (f : Fault) → when b f ≡ [] → b ≡ false
+when_none true f e = absurd cc
+when_none false f e = refl
+
+or_else_none : (fs more : List Fault) → or_else fs more ≡ [] → more ≡ []
+or_else_none [] more e = e
+or_else_none (f ∷ fs) more e = absurd cc
 
 -- no fault where two numbers must be the same
 same_number_lem : (a b : ℕ) (f : Fault) → when (not (eqb a b)) f ≡ [] → a ≡ b
@@ -57,18 +66,6 @@ whole i s l =
     let none : drop (length (start_in s i)) (replicate 32 0) ≡ [] =
     drop_all (length (start_in s i)) (replicate 32 0) (omega (arith, length_start i s l, length-replicate {A = ℕ} 32 0)) in
     ap (λ (rest : List ℕ). start_in s i ++ rest) none ∙ append-nil (start_in s i)
-
-joined_at : (f : ℕ → List ℕ) (n : ℕ) (xs : List ℕ) → ((j : ℕ) → j < length xs → length (f (get_or xs j 0)) ≡ n) → (k : ℕ) → k < length xs →
-    take n (drop (n * k) (flat_map f xs)) ≡ f (get_or xs k 0)
-joined_at f n [] size k l = absurd (omega arith)
-joined_at f n (x ∷ xs) size zero l = rw mul-zero (take_at (f x) (flat_map f xs) n (size 0 l))
-joined_at f n (x ∷ xs) size (suc k) l =
-    let e : n * suc k ≡ n + n * k = omega (arith, mul-suc n k) in
-    rw (e, ← drop-drop, drop_at (f x) (flat_map f xs) n (size 0 (omega arith))) (joined_at f n xs (λ j m. size (suc j) (omega arith)) k (omega arith))
-
--- no fault at all
-pub asked_none : (h : ℕ) (us s : List ℕ) → starts_faults s ≡ [] → get_or s 1 0 ≡ h → list_faults h us ≡ [] → asked_faults h us s ≡ []
-asked_none h us s file same asked = rw (file, eq-eqb (get_or s 1 0) h same, asked)
 
 module _ (h : ℕ) (us s : List ℕ) (none : asked_faults h us s ≡ []) where
   all_three : (starts_faults s ≡ []) × (get_or s 1 0 ≡ h) × (list_faults h us ≡ [])
@@ -90,19 +87,18 @@ module _ (h : ℕ) (us s : List ℕ) (none : asked_faults h us s ≡ []) where
   size =
       same_number_lem (length s) (starts_size (get_or s 1 0)) Malformed (or_else_none (head_faults 4 s) _ file_sound) ∙ ap starts_size same_height
 
-  module _ (nodes : List ℕ) (kept : KeptNodes h us nodes) where
+  module _ (starts : List Start) (kept : KeptNodes h us (nodes_of starts)) where
     inside : T (all_below (2 ^ h) us)
     inside = (faultless h us asked_sound).1
 
-    low : (j : ℕ) → j < length nodes → get_or nodes j 0 < 2 ^ suc h
+    low : (j : ℕ) → j < length (nodes_of starts) → get_or (nodes_of starts) j 0 < 2 ^ suc h
     low j l =
-        let i = get_or nodes j 0 in
+        let i = get_or (nodes_of starts) j 0 in
         ⊎_elim (λ z. omega (arith, eqb-true i 0 z, pow_pos (suc h)))
-        (λ a. let w = above_some_lem h us i inside a in omega (arith, w.5, up_le w.1 (leaf h w.0), is_in_below (2 ^ h) w.0 us inside w.2, pow-suc 2 h))
-        (or_cases (eqb i 0) (above_some h us i) (sym (kept.exact i) ∙ is_in_at nodes j l))
+        (λ a. let w = above_some_lem h us i inside a in omega (arith, w.5, up_le w.1 (leaf h w.0), ltb-true w.0 (2 ^ h) (below_in (2 ^ h) us w.0 inside w.2), pow-suc 2 h))
+        (or_cases (eqb i 0) (above_some h us i) (sym (kept.exact i) ∙ is_in_at (nodes_of starts) j l))
 
-    pub starts_are : cells s nodes ≡ flat_map (start_in s) nodes
-    starts_are = joined_same _ _ nodes (λ j l. whole (get_or nodes j 0) s (omega (arith, size, low j l)))
-
-    pub start_at_lem : (n k : ℕ) → n ≡ 32 → k < length nodes → take n (drop (32 * k) (flat_map (start_in s) nodes)) ≡ start_in s (get_or nodes k 0)
-    start_at_lem n k e l = rw e (joined_at (start_in s) 32 nodes (λ j m. length_start (get_or nodes j 0) s (omega (arith, size, low j m))) k l)
+    pub starts_are : All (AsRead s) starts → All (λ (start : Start). start.bytes ≡ start_in s start.node) starts
+    starts_are all j d l =
+        let m : j < length (nodes_of starts) = omega (arith, length-map starts (λ (start : Start). start.node)) in
+        all j d l ∙ whole (get_or starts j d).node s (omega (arith, size, low j m, node_at starts j d l))

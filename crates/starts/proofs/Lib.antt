@@ -4,7 +4,6 @@ mod Levels
 pub mod Members
 mod Pushed
 mod Filled
-mod Ends
 mod Begun
 mod Finished
 mod Looked

@@ -30,7 +30,7 @@ is_in_unrepeated i last (x ∷ xs) =
 
 is_in_map : (f : ℕ → ℕ) (i : ℕ) (us : List ℕ) → is_in i (map f us) ≡ true → (u : ℕ) × (is_in u us ≡ true) × (f u ≡ i)
 unfolding is_in
-is_in_map f i [] t = absurd (let z : ◌≡◌ {A = ℕ} 0 1 = cc in omega arith)
+is_in_map f i [] t = absurd cc
 is_in_map f i (u ∷ us) t =
     ⊎_elim (λ e. (u, or_left (eqb u u) (is_in u us) (eq-eqb u u refl), sym (eqb-true i (f u) e)))
     (λ e. let r = is_in_map f i us e in (r.0, or_right (eqb r.0 u) (is_in r.0 us) r.1, r.2))
@@ -38,18 +38,11 @@ is_in_map f i (u ∷ us) t =
 
 map_is_in : (f : ℕ → ℕ) (u : ℕ) (us : List ℕ) → is_in u us ≡ true → is_in (f u) (map f us) ≡ true
 unfolding is_in
-map_is_in f u [] t = absurd (let z : ◌≡◌ {A = ℕ} 0 1 = cc in omega arith)
+map_is_in f u [] t = absurd cc
 map_is_in f u (v ∷ us) t =
     ⊎_elim (λ e. or_left (eqb (f u) (f v)) (is_in (f u) (map f us)) (eq-eqb (f u) (f v) (ap f (eqb-true u v e))))
     (λ e. or_right (eqb (f u) (f v)) (is_in (f u) (map f us)) (map_is_in f u us e))
     (or_cases (eqb u v) (is_in u us) t)
-
-pub is_in_below : (n u : ℕ) (us : List ℕ) → T (all_below n us) → is_in u us ≡ true → u < n
-unfolding is_in all_below
-is_in_below n u [] b t = absurd (let z : ◌≡◌ {A = ℕ} 0 1 = cc in omega arith)
-is_in_below n u (v ∷ us) b t =
-    let p = T_both (ltb v n) (all_below n us) b in
-    ⊎_elim (λ e. omega (arith, eqb-true u v e, ltb-true v n (T_true (ltb v n) p.0))) (is_in_below n u us p.1) (or_cases (eqb u v) (is_in u us) t)
 
 -- node i is properly above the own node of one of the receivers
 abbrev pub Above : ℕ → List ℕ → ℕ → Type 0
@@ -96,7 +89,7 @@ in_levels h us i k (suc l) lt t =
 -- what is above a receiver, by steps up from its own node
 pub above_some_lem : (h : ℕ) (us : List ℕ) (i : ℕ) → T (all_below (2 ^ h) us) → above_some h us i ≡ true → Above h us i
 unfolding above_some is_in all_below up
-above_some_lem h [] i inside t = absurd (let z : ◌≡◌ {A = ℕ} 0 1 = cc in omega arith)
+above_some_lem h [] i inside t = absurd cc
 above_some_lem h (u ∷ us) i inside t =
     let b = T_both (ltb u (2 ^ h)) (all_below (2 ^ h) us) inside in
     let small = ltb-true u (2 ^ h) (T_true (ltb u (2 ^ h)) b.0) in
@@ -115,7 +108,7 @@ above_some_lem h (u ∷ us) i inside t =
 
 pub some_above : (h : ℕ) (us : List ℕ) (i u d : ℕ) → 1 ≤ i → is_in u us ≡ true → d < h → up d (leaf h u / 2) ≡ i → above_some h us i ≡ true
 unfolding above_some is_in
-some_above h [] i u d pos t low e = absurd (let z : ◌≡◌ {A = ℕ} 0 1 = cc in omega arith)
+some_above h [] i u d pos t low e = absurd cc
 some_above h (v ∷ us) i u d pos t low e =
     ⊎_elim
     (λ q. or_left (ltb 0 i && below h i (leaf h v / 2)) (above_some h us i)

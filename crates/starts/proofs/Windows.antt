@@ -59,11 +59,6 @@ module _ (b n at : ℕ) (s p out : List ℕ) (low : b + n ≤ 2 ^ 63) (read : at
   past : (k : ℕ) → k < n → at + length p ≤ b + k → get_or out k 0 ≡ get_or (s ++ p) (b + k) 0
   past k l m = rw is (window_at b n s k l) ∙ get_or_past s (b + k) 0 (omega arith) ∙ sym (get_or_past (s ++ p) (b + k) 0 (rw length-append (omega arith)))
 
-  pub untouched : to ≤ from → out ≡ window b n (s ++ p)
-  untouched none =
-      window_from b n (s ++ p) out size
-      (λ k l. elim (cases_lt (b + k) at) [ inl m ↦ old k l m | inr m ↦ past k l (omega arith) ])
-
   pub touched : (ys : List ℕ) → ys ≡ take (to - at - (from - at)) (drop (from - at) p) → from < to →
       put_mid (from - b) (to - b - (from - b)) out ys ≡ window b n (s ++ p)
   touched ys is-part some = window_from b n (s ++ p) _ (length_written out ys _ _ part_size room ∙ size) at_place

@@ -1,7 +1,7 @@
 -- A part of a file of which the end may not have been read yet. Assumes nothing.
-use Rattle.std.specs.Prelude.{ℕ, suc, ◌-◌, ◌^◌, ◌<◌, ◌≤◌, min, List, length, take, drop, replicate, slice_index}
-use Rattle.std.specs.List.{flat_map}
+use Rattle.std.specs.Prelude.{◌≡◌, ℕ, suc, ◌-◌, ◌^◌, ◌<◌, ◌≤◌, min, List, length, map, take, drop, replicate, slice_index}
 use Rattle.fault.specs.Memory.{over}
+use Rattle.starts.specs.declared.start.Start.{Start}
 use Rattle.starts.specs.Format.{start_at}
 
 -- how many bytes were read, as far as they can be counted
@@ -12,9 +12,12 @@ counted s = min (length s) (2 ^ 64 - 1)
 abbrev pub window : ℕ → ℕ → List ℕ → List ℕ
 window b n s = over (take n (drop b s)) (replicate n 0)
 
--- the starts of some nodes, one behind the other, as far as they were read
-abbrev pub cells : List ℕ → List ℕ → List ℕ
-cells s nodes = flat_map (λ i. window (start_at i) 32 s) nodes
+-- the start of a node is there as far as it was read
+abbrev pub AsRead : List ℕ → Start → Type 0
+AsRead s start = start.bytes ≡ window (start_at start.node) 32 s
+
+abbrev pub nodes_of : List Start → List ℕ
+nodes_of starts = map (λ start. start.node) starts
 
 -- the starts of the first n nodes were read to their ends
 abbrev pub Complete : ℕ → List ℕ → List ℕ → Type 0

@@ -4,13 +4,11 @@ ghost use Rattle.fault.specs.Lowest.{judged};
 ghost use Rattle.wire.specs.Head.{head_faults};
 
 use fault::Fault;
-use wire::head::read_head;
-
-const KIND: u8 = 4;
+use wire::head::Kind;
 
 /// The height of the tree, by the first two bytes of a file of starts.
 pub fn read_height(front: &[u8]) -> Result<u8, Fault>
     ensures { result ≡ judged (head_faults 4 front.now) (slice_index front.now 1) }
 {
-    read_head(KIND, front)
+    Ok(wire::head::read_height(Kind::Starts, front)?.levels)
 }

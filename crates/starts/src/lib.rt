@@ -2,12 +2,14 @@
 //! It is the one format that needs a heap to be read, so it stands apart from the others.
 #![tactic(auto)]
 
-mod cells;
+mod asked;
+mod filling;
 pub mod head;
 mod judging;
 mod lookup;
 mod nodes;
+mod piece;
 pub mod reader;
 mod reading;
+mod start;
 pub mod table;
-mod window;

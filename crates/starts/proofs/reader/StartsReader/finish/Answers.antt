@@ -5,9 +5,9 @@ use Rattle.starts.specs.Format.{asked_faults}
 use Rattle.starts.proofs.Finished.{file_sound, same_height, asked_sound, starts_are}
 use Rattle.starts.proofs.reader.StartsReader.finish.Goals as goal
 
-pub returns : goal.returns
-returns c h us s r =
-    let none = lowest_none (asked_faults h us s) (sym c.in_default.is ∙ c.fault.ensures h us s r) in
+pub returns-in-None : goal.returns-in-None
+returns-in-None c h us s r =
+    let none = lowest_none (asked_faults h us s) (sym c.in-None.is ∙ c.fault.ensures h us s r) in
     let kept = r.nodes (asked_sound h us s none) in
     record {
       height = r.height;
@@ -15,5 +15,5 @@ returns c h us s r =
       same = same_height h us s none;
       sound = asked_sound h us s none;
       nodes = kept;
-      starts = r.starts ∙ starts_are h us s none (vec_items c.args.self.nodes) kept;
+      starts = starts_are h us s none (vec_items c.args.self.starts) kept r.starts;
     }

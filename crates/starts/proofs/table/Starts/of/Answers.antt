@@ -1,27 +1,25 @@
--- The node stands where the search finds it, and its start stands there among the starts.
-use Rattle.std.proofs.Common.{◌≡◌, ℕ, ◌+◌, ◌-◌, ◌*◌, List, take, drop, sym, ap, ◌∙◌, subst, arith}
-use Rattle.std.specs.List.{flat_map}
+-- What the search finds is the start of the node.
+use Rattle.std.proofs.Common.{◌≡◌, refl, ap, ◌∙◌, rules}
+use Rattle.std.proofs.lemmas.List.Sorted.{answers_always}
+use Rattle.starts.specs.declared.start.Start.{Start}
 use Rattle.starts.specs.Format.{start_in}
-use Rattle.starts.specs.Kept.{KeptNodes}
-use Rattle.starts.proofs.Finished.{asked_none, start_at_lem}
-use Rattle.starts.proofs.Looked.{not_kept, is_kept_lem}
+use Rattle.starts.proofs.Looked.{looked}
 use Rattle.starts.proofs.table.Starts.of.Goals as goal
 
-pub returns-in_default : goal.returns-in_default
-returns-in_default c h us s r =
-    let kept = subst (KeptNodes h us) (sym c.deref.ensures.value) r.nodes in
-    rw (not_kept h us c.deref.result.now kept c.args.node (c.in_default.ensures.found kept.rises))
+pub returns-in_err-place : goal.returns-in_err-place
+returns-in_err-place c h us s has =
+    let search_ran = c.binary_search_by_key.ensures in
+    let by_node = search_ran.position (λ start. start.node) (answers_always _ _ _ (λ f a r g called. search rules)) in
+    let found = looked h us s c.deref.result.now (rw c.deref.ensures.value has.nodes) (rw c.deref.ensures.value has.starts) c.args.node _ search_ran.bound by_node in
+    let none = rw (← c.in_err-place.ensures.value) at found in
+    rw (c.from_residual.ensures, none) refl
 
 pub returns : goal.returns
-returns c h us s r =
-    let nodes = c.deref.result.now in
-    let kept = subst (KeptNodes h us) (sym c.deref.ensures.value) r.nodes in
-    let k = c.in-Some.k in
-    let within = c.in-Some.ensures.within in
-    let found = c.in-Some.ensures.found kept.rises in
-    let n = 32 * k + 32 - 32 * k in
-    let bytes : c.deref-2.result.now ≡ flat_map (start_in s) nodes = c.deref-2.ensures.value ∙ r.starts ∙ ap (flat_map (start_in s)) (sym c.deref.ensures.value) in
-    let start : c.copy_from_slice.new.self ≡ start_in s c.args.node =
-    c.copy_from_slice.ensures.after ∙ ap (λ (bs : List ℕ). take n (drop (32 * k) bs)) bytes
-    ∙ start_at_lem h us s (asked_none h us s r.faultless r.same r.sound) nodes kept n k (omega arith) within ∙ ap (start_in s) found in
-    rw (is_kept_lem h us nodes kept c.args.node k within found, start)
+returns c h us s has =
+    let search_ran = c.binary_search_by_key.ensures in
+    let by_node = search_ran.position (λ start. start.node) (answers_always _ _ _ (λ f a r g called. search rules)) in
+    let found = looked h us s c.deref.result.now (rw c.deref.ensures.value has.nodes) (rw c.deref.ensures.value has.starts) c.args.node _ search_ran.bound by_node in
+    let some = rw (← c.in_ok-place.ensures.value) at found in
+    let bytes : c.index.result.now.bytes ≡ start_in s c.args.node =
+    ap (λ (start : Start). start.bytes) c.index.ensures ∙ (rw c.deref.ensures.value at (some.1 c.index.result.now)) in
+    rw (some.0, bytes) refl
