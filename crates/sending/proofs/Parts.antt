@@ -1,20 +1,28 @@
 -- Headers can be made for the parts of a cover, with the starts that are kept for its revoked receivers. Assumes nothing.
-use Rattle.std.proofs.Common.{◌≡◌, ℕ, zero, suc, ◌+◌, ◌^◌, ◌<◌, ◌≤◌, true, not, ◌&&◌, T, eqb, ltb, ◌⊎◌, List, [], ◌∷◌, length, get_or, sym, refl, ap, ◌∙◌, inl, inr, ⊎_elim, pow-suc, arith, pow_pos}
+use Rattle.std.proofs.Common.{◌≡◌, ℕ, zero, suc, ◌+◌, ◌^◌, ◌<◌, ◌≤◌, true, not, ◌&&◌, T, eqb, ltb, ◌⊎◌, List, [], ◌∷◌, length, get_or, Some, None, Ok, Err, Option, Result, sym, refl, ap, ◌∙◌, subst, inl, inr, ⊎_elim, pow-suc, arith, pow_pos}
 use mathlib.Core.List.{Memᴰ}
 use Rattle.std.proofs.lemmas.Bool.{and_parts, or_cases, or_left, or_right, eqb-true, eqb-false, eq-eqb, ltb-true, not-true}
+use Rattle.std.proofs.lemmas.List.Recursion.{and_at, and_from_places}
 use Rattle.tree.specs.declared.parts.Part.{Part}
 use Rattle.tree.specs.Nodes.{leaf, below, in_tree}
 use Rattle.tree.specs.Receivers.{is_in, all_below}
 use Rattle.tree.specs.Parts.{part, is_all, descends, proper}
 use Rattle.tree.specs.Cover.{cover}
-use Rattle.tree.specs.Promise.{AboveRevoked}
+use Rattle.tree.specs.Promise.{most, AboveRevoked}
 use Rattle.tree.proofs.Tests.{T_true}
 use Rattle.tree.proofs.Up.{up, up_add, up_far, below_up}
 use Rattle.tree.proofs.Covers.{covers}
-use Rattle.tree.proofs.Judged.{below_in}
+use Rattle.tree.proofs.Judged.{below_in, sound}
 use Rattle.starts.specs.Kept.{above_some, is_kept}
 use Rattle.starts.proofs.Members.{some_above}
-use Rattle.sending.specs.Headers.{Sendable, AllSendable}
+use Rattle.fault.specs.declared.Fault.{Fault}
+use Rattle.fault.specs.declared.Refusal.{Refusal}
+use Rattle.fault.specs.Lowest.{lowest}
+use Rattle.fault.specs.Memory.{fitted}
+use Rattle.wire.specs.Sending.{sending_size}
+use Rattle.sending.specs.Answer.{send_faults, room_for, with_starts, OwnStarts}
+use Rattle.sending.proofs.Counted.{order_sound}
+use Rattle.sending.specs.Headers.{Sendable, AllSendable, firsts_kept}
 
 mem_at : (ps : List Part) (i : ℕ) → i < length ps → Memᴰ (get_or ps i (part 0 0)) ps
 mem_at [] i l = absurd (omega arith)
@@ -75,3 +83,39 @@ all_sendable h rs fine i l =
     let c = covers h rs fine in
     let m = mem_at (cover h rs) i l in
     sendable h (get_or (cover h rs) i (part 0 0)) rs fine (c.neat _ m) (c.needed _ m)
+
+-- the same with starts that were read for others, if those that the parts need were kept
+sendable_from : (h : ℕ) (rs us : List ℕ) (ps : List Part) → AllSendable h rs ps → firsts_kept h us ps ≡ true → AllSendable h us ps
+unfolding firsts_kept
+sendable_from h rs us ps own all i l =
+    let one = own i l in
+    record {
+      is_proper = one.is_proper;
+      low = one.low;
+      first_low = one.first_low;
+      kept = and_at (firsts_kept h us) (λ p. is_kept h us p.first) refl (λ p qs. refl) ps i (part 0 0) l all;
+    }
+
+-- for the cover as it was noted
+pub noted_sendable : (h : ℕ) (rs us : List ℕ) (ps : List Part) → ps ≡ cover h rs → T (all_below (2 ^ h) rs) → true ≡ firsts_kept h us ps → AllSendable h us ps
+noted_sendable h rs us ps noted fine kept = sendable_from h rs us ps (subst (AllSendable h rs) (sym noted) (all_sendable h rs fine)) (sym kept)
+
+-- those that were read for the revoked receivers are enough
+pub own_kept : (h : ℕ) (rs : List ℕ) → T (all_below (2 ^ h) rs) → firsts_kept h rs (cover h rs) ≡ true
+unfolding firsts_kept
+own_kept h rs fine =
+    and_from_places (firsts_kept h rs) (λ p. is_kept h rs p.first) refl (λ p qs. refl) (cover h rs) (part 0 0) (λ i l. (all_sendable h rs fine i l).kept)
+
+pub own_starts : OwnStarts
+own_starts h n rs noted bytes = go (lowest (send_faults h n rs)) refl
+  where
+    there : (r : Result ℕ Refusal) → with_starts true r ≡ r
+    there (Ok k) = refl
+    there (Err e) = refl
+
+    go : (o : Option Fault) → lowest (send_faults h n rs) ≡ o →
+        with_starts (firsts_kept h rs (cover h rs)) (fitted o (most (length rs)) (room_for noted bytes) (sending_size (length (cover h rs))))
+        ≡ fitted o (most (length rs)) (room_for noted bytes) (sending_size (length (cover h rs)))
+    go (Some f) e = refl
+    go None e =
+        rw (own_kept h rs (sound h rs (order_sound h n rs (sym e)).1).1) (there (fitted None (most (length rs)) (room_for noted bytes) (sending_size (length (cover h rs)))))

@@ -1,5 +1,5 @@
 -- Which parts headers can be made for, and what is written for them. Assumes nothing.
-use Rattle.std.specs.Prelude.{◌≡◌, ℕ, suc, ◌^◌, ◌<◌, true, T, List, map, length, slice_index_or}
+use Rattle.std.specs.Prelude.{◌≡◌, ℕ, suc, ◌^◌, ◌<◌, Bool, true, ◌&&◌, T, List, [], ◌∷◌, map, length, slice_index_or}
 use Rattle.fault.specs.Memory.{over}
 use Rattle.tree.specs.declared.parts.Part.{Part}
 use Rattle.tree.specs.Parts.{part, proper}
@@ -18,6 +18,11 @@ pub record Sendable (h : ℕ) (us : List ℕ) (p : Part) : Type 0 where
 
 abbrev pub AllSendable : ℕ → List ℕ → List Part → Type 0
 AllSendable h us ps = (i : ℕ) → i < length ps → Sendable h us (slice_index_or ps i (part 0 0))
+
+-- whether the starts of the first nodes of all parts were kept for the receivers us
+unfoldable pub firsts_kept : ℕ → List ℕ → List Part → Bool
+firsts_kept h us [] = true
+firsts_kept h us (p ∷ ps) = is_kept h us p.first && firsts_kept h us ps
 
 -- the headers of the parts, of 48 bytes each, were written over the front of memory
 abbrev pub WroteHeaders : World → ℕ → Trial → List Part → List ℕ → List ℕ → Type 0

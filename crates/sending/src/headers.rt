@@ -6,7 +6,7 @@ ghost use Rattle.secrecy.specs.Worlds.{bytes};
 ghost use Rattle.keys.specs.Drawn.{Draws, world};
 ghost use Rattle.starts.specs.Drawn.{DrawnIn};
 ghost use Rattle.starts.specs.Reading.{HasStarts};
-ghost use Rattle.sending.specs.Headers.{AllSendable, WroteHeaders};
+ghost use Rattle.sending.specs.Headers.{firsts_kept, AllSendable, WroteHeaders};
 
 use crate::header::header;
 use crate::show::Show;
@@ -15,6 +15,18 @@ use keys::cipher::Cipher;
 use starts::table::Starts;
 use tree::parts::Part;
 use wire::sending::{HEADER, header_bytes};
+
+/// Whether the starts are there from which the keys of parts come.
+pub fn has_starts(starts: &Starts, parts: &[Part]) -> bool
+    ensures { (h : ℕ) (us s : List ℕ) → HasStarts h us s starts.now → result ≡ firsts_kept h us parts.now }
+{
+    for part in parts {
+        if starts.of(part.first).is_none() {
+            return false;
+        }
+    }
+    true
+}
 
 /// Writes the headers of parts to the front of lent memory. It fails only where a start is missing, a part is improper or the number is too high.
 pub fn write_headers<C: Cipher>(

@@ -1,5 +1,7 @@
 //! A whole sending, from the starts that were read for its revoked receivers. Assumes nothing.
-ghost use Rattle.std.specs.Prelude.{◌≡◌, ℕ, ◌-◌, ◌/◌, ◌≤◌, List, map, length, take, IfOk, None, MatchResult};
+ghost use Rattle.std.specs.Prelude.{◌≡◌, ℕ, ◌-◌, ◌/◌, ◌≤◌, true, false, List, map, length, take, IfOk, OnErr, None, MatchResult};
+ghost use Rattle.fault.specs.declared.Fault.TheVariants.{OutOfRange};
+ghost use Rattle.fault.specs.declared.Refusal.TheVariants.{Faulty};
 ghost use Rattle.fault.specs.Lowest.{lowest};
 ghost use Rattle.fault.specs.Memory.{over, afterwards};
 ghost use Rattle.tree.specs.Cover.{cover};
@@ -10,11 +12,12 @@ ghost use Rattle.secrecy.specs.Blind.{ShowsBytes};
 ghost use Rattle.keys.specs.Drawn.{Draws, world};
 ghost use Rattle.starts.specs.Reading.{HasStarts};
 ghost use Rattle.wire.specs.Sending.{sending_size, ReadsAsSent};
-ghost use Rattle.sending.specs.Answer.{send_faults, room_for, send_answer};
+ghost use Rattle.sending.specs.Answer.{send_faults, room_for, send_answer, answer_from, OwnStarts};
+ghost use Rattle.sending.specs.Headers.{firsts_kept};
 ghost use Rattle.sending.specs.Secret.{SendingsSecret};
 ghost use Rattle.sending.specs.Sent.{covered, sent_file, Ordered, SentIn, FileIsAir};
 
-use crate::headers::write_headers;
+use crate::headers::{has_starts, write_headers};
 use crate::show::Show;
 use fault::{Fault, Refusal, lower_of};
 use keys::Key;
@@ -64,17 +67,21 @@ fn write_checked<C: Cipher>(
     requires noted { most (length revoked.now) ≤ length parts.old }
     requires room { sending_size (most (length revoked.now)) ≤ length out.old }
     ensures within { IfOk result (λ n. sending_size n ≤ length out.old) }
-    ensures written { (s : List ℕ) → HasStarts height revoked.now s starts.now → MatchResult result (λ n. (n ≡ length (cover height revoked.now)) × (parts.new ≡ over (cover height revoked.now) parts.old) × ((d : Draws) (m : Sending) → Ordered C.Cipher.gives s height show.number revoked.now show.session d m → SentIn (world C.Cipher.gives d) height m out.old out.new)) (λ _. ⊥) }
+    ensures noted { parts.new ≡ over (cover height revoked.now) parts.old }
+    ensures written { (us s : List ℕ) → HasStarts height us s starts.now → MatchResult result (λ n. (firsts_kept height us (cover height revoked.now) ≡ true) × (n ≡ length (cover height revoked.now)) × ((d : Draws) (m : Sending) → Ordered C.Cipher.gives s height show.number revoked.now show.session d m → SentIn (world C.Cipher.gives d) height m out.old out.new)) (λ r. (firsts_kept height us (cover height revoked.now) ≡ false) × (r ≡ Faulty OutOfRange) × (out.new ≡ out.old)) }
 {
     let count = cover_rest(height, revoked, parts)?;
-    out[0..HEAD].copy_from_slice(&head_bytes(height, show.number, count));
     let cover = &parts[0..count as usize];
+    if !has_starts(starts, cover) {
+        return Err(Fault::OutOfRange.into());
+    }
+    out[0..HEAD].copy_from_slice(&head_bytes(height, show.number, count));
     write_headers(cipher, starts, cover, show, &mut out[HEAD..])?;
     Ok(count)
 }
 
-/// Writes a sending to the front of the lent memory, with its parts noted in the front of `parts`, and answers how many bytes it has. The starts
-/// are those that were read for the revoked receivers; then a refusal leaves all memory as it was.
+/// Writes a sending to the front of the lent memory, with its parts noted in the front of `parts`, and answers how many bytes it has. A refusal leaves
+/// all memory as it was, unless a start is missing, when the parts are noted. None is missing of starts that were read for the revoked receivers.
 pub fn write_sending<C: Cipher>(
     cipher: &mut C,
     starts: &Starts,
@@ -84,11 +91,13 @@ pub fn write_sending<C: Cipher>(
     parts: &mut [Part],
     out: &mut [u8],
 ) -> Result<usize, Refusal>
-    ensures answer { (h : ℕ) (s : List ℕ) → HasStarts h revoked.now s starts.now → result ≡ send_answer h number revoked.now (length parts.old) (length out.old) }
+    ensures answer { (h : ℕ) (us s : List ℕ) → HasStarts h us s starts.now → result ≡ answer_from h us number revoked.now (length parts.old) (length out.old) }
+    ensures own_starts { OwnStarts }
     ensures within { IfOk result (λ n. n ≤ length out.old) }
-    ensures parts { (h : ℕ) (s : List ℕ) → HasStarts h revoked.now s starts.now → parts.new ≡ afterwards result (cover h revoked.now) parts.old }
-    ensures memory { (h : ℕ) (s : List ℕ) (d : Draws) (m : Sending) → HasStarts h revoked.now s starts.now → Ordered C.Cipher.gives s h number revoked.now session d m → out.new ≡ afterwards result (sent_file (world C.Cipher.gives d) h m) out.old }
-    ensures read_back { (h : ℕ) (s : List ℕ) (d : Draws) (m : Sending) → HasStarts h revoked.now s starts.now → Ordered C.Cipher.gives s h number revoked.now session d m → IfOk result (λ n. ReadsAsSent (take n out.new) h number (cover h revoked.now) (map (covered (world C.Cipher.gives d) h (as_trial h m)) (cover h revoked.now))) }
+    ensures parts { (h : ℕ) (us s : List ℕ) → HasStarts h us s starts.now → parts.new ≡ afterwards (send_answer h number revoked.now (length parts.old) (length out.old)) (cover h revoked.now) parts.old }
+    ensures memory { (h : ℕ) (us s : List ℕ) (d : Draws) (m : Sending) → HasStarts h us s starts.now → Ordered C.Cipher.gives s h number revoked.now session d m → out.new ≡ afterwards result (sent_file (world C.Cipher.gives d) h m) out.old }
+    ensures refused { (h : ℕ) (us s : List ℕ) → HasStarts h us s starts.now → OnErr result (out.new ≡ out.old) }
+    ensures read_back { (h : ℕ) (us s : List ℕ) (d : Draws) (m : Sending) → HasStarts h us s starts.now → Ordered C.Cipher.gives s h number revoked.now session d m → IfOk result (λ n. ReadsAsSent (take n out.new) h number (cover h revoked.now) (map (covered (world C.Cipher.gives d) h (as_trial h m)) (cover h revoked.now))) }
     ensures few { CoverCovers }
     ensures air { FileIsAir }
     ensures secret { SendingsSecret }

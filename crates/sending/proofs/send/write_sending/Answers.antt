@@ -1,31 +1,34 @@
 -- What is refused is refused before anything is written; else all of the sending is.
-use Rattle.std.proofs.Common.{◌≡◌, ℕ, List, length, Some, None, sym, refl, ap, ◌∙◌, subst}
+use Rattle.std.proofs.Common.{◌≡◌, ℕ, true, false, List, length, Some, None, sym, refl, ap, ◌∙◌, subst}
+use Rattle.std.proofs.lemmas.Result.{err_from_is_err_and}
 use Rattle.fault.specs.Lowest.{lowest}
 use Rattle.fault.specs.Memory.{over}
 use Rattle.tree.specs.Cover.{cover}
 use Rattle.tree.proofs.Covers.{covers}
+use Rattle.secrecy.specs.Air.{Sending}
 use Rattle.secrecy.proofs.ShownBytes.{shows_bytes}
-use Rattle.keys.specs.Drawn.{world}
+use Rattle.keys.specs.Drawn.{Draws, world}
 use Rattle.starts.specs.Reading.{HasStarts}
 use Rattle.wire.specs.Sending.{sending_size}
 use Rattle.sending.specs.Answer.{send_faults}
-use Rattle.sending.specs.Sent.{sent_file, Ordered, SentIn}
+use Rattle.sending.specs.Headers.{firsts_kept}
+use Rattle.sending.proofs.Parts.{own_starts}
+use Rattle.sending.specs.Sent.{Ordered, SentIn}
 use Rattle.sending.proofs.Whole.{sent_back, file_is_air, sendings_secret}
 use Rattle.sending.proofs.send.write_sending.Goals as goal
 
 pub returns-in-Some : goal.returns-in-Some
 returns-in-Some g c =
+    let fault : (h : ℕ) (us s : List ℕ) → HasStarts h us s c.args.starts.now → lowest (send_faults h c.args.number c.args.revoked.now) ≡ Some c.in-Some.fault =
+    λ h us s has. ap (λ (x : ℕ). lowest (send_faults x c.args.number c.args.revoked.now)) (sym (c.height-height.ensures ∙ has.height)) ∙ sym c.in-Some.ensures in
     record {
-      answer =
-          λ h s has.
-          let same = c.height-height.ensures ∙ has.height in
-          let fault : lowest (send_faults h c.args.number c.args.revoked.now) ≡ Some c.in-Some.fault =
-          ap (λ (x : ℕ). lowest (send_faults x c.args.number c.args.revoked.now)) (sym same) ∙ sym c.in-Some.ensures in
-          rw (c.into.ensures, fault) refl;
+      answer = λ h us s has. rw (c.into.ensures, fault h us s has) refl;
+      own_starts = own_starts;
       within = tt;
-      parts = λ h s has. refl;
-      memory = λ h s d m has o. refl;
-      read_back = λ h s d m has o. tt;
+      parts = λ h us s has. rw (fault h us s has) refl;
+      memory = λ h us s d m has o. refl;
+      refused = λ h us s has. refl;
+      read_back = λ h us s d m has o. tt;
       few = covers;
       air = file_is_air;
       secret = sendings_secret;
@@ -34,18 +37,17 @@ returns-in-Some g c =
 
 pub returns-then-not-has_room : goal.returns-then-not-has_room
 returns-then-not-has_room g c =
+    let none : (h : ℕ) (us s : List ℕ) → HasStarts h us s c.args.starts.now → lowest (send_faults h c.args.number c.args.revoked.now) ≡ None =
+    λ h us s has. ap (λ (x : ℕ). lowest (send_faults x c.args.number c.args.revoked.now)) (sym (c.height-height.ensures ∙ has.height)) ∙ sym c.in_default.ensures in
+    let test = rw c.room_for.ensures at c.if-not-has_room.ensures in
     record {
-      answer =
-          λ h s has.
-          let same = c.height-height.ensures ∙ has.height in
-          let none : lowest (send_faults h c.args.number c.args.revoked.now) ≡ None =
-          ap (λ (x : ℕ). lowest (send_faults x c.args.number c.args.revoked.now)) (sym same) ∙ sym c.in_default.ensures in
-          let test = rw c.room_for.ensures at c.if-not-has_room.ensures in
-          rw (none, ← test) refl;
+      answer = λ h us s has. rw (none h us s has, ← test) refl;
+      own_starts = own_starts;
       within = tt;
-      parts = λ h s has. refl;
-      memory = λ h s d m has o. refl;
-      read_back = λ h s d m has o. tt;
+      parts = λ h us s has. rw (none h us s has, ← test) refl;
+      memory = λ h us s d m has o. refl;
+      refused = λ h us s has. refl;
+      read_back = λ h us s d m has o. tt;
       few = covers;
       air = file_is_air;
       secret = sendings_secret;
@@ -58,63 +60,66 @@ returns g c =
     let n = c.args.number in
     let rs = c.args.revoked.now in
     let w = c.in_ok-count.ensures in
-    let same : (h : ℕ) (s : List ℕ) → HasStarts h rs s c.args.starts.now → h ≡ k = λ h s has. sym (c.height-height.ensures ∙ has.height) in
-    let at-k : (h : ℕ) (s : List ℕ) → HasStarts h rs s c.args.starts.now → HasStarts k rs s c.args.starts.now =
-    λ h s has. subst (λ (x : ℕ). HasStarts x rs s c.args.starts.now) (same h s has) has in
-    let size : (h : ℕ) (s : List ℕ) → HasStarts h rs s c.args.starts.now → c.size_of_sending.result ≡ sending_size (length (cover h rs)) =
-    λ h s has. c.size_of_sending.ensures ∙ ap sending_size ((w.written s (at-k h s has)).0) ∙ ap (λ (x : ℕ). sending_size (length (cover x rs))) (sym (same h s has)) in
+    let same : (h : ℕ) (us s : List ℕ) → HasStarts h us s c.args.starts.now → h ≡ k = λ h us s has. sym (c.height-height.ensures ∙ has.height) in
+    let at-k : (h : ℕ) (us s : List ℕ) → HasStarts h us s c.args.starts.now → HasStarts k us s c.args.starts.now =
+    λ h us s has. subst (λ (x : ℕ). HasStarts x us s c.args.starts.now) (same h us s has) has in
+    let size : (h : ℕ) (us s : List ℕ) → HasStarts h us s c.args.starts.now → c.size_of_sending.result ≡ sending_size (length (cover h rs)) =
+    λ h us s has. c.size_of_sending.ensures ∙ ap sending_size ((w.written us s (at-k h us s has)).1) ∙ ap (λ (x : ℕ). sending_size (length (cover x rs))) (sym (same h us s has)) in
+    let none : (h : ℕ) (us s : List ℕ) → HasStarts h us s c.args.starts.now → lowest (send_faults h n rs) ≡ None =
+    λ h us s has. ap (λ (x : ℕ). lowest (send_faults x n rs)) (same h us s has) ∙ sym c.in_default.ensures in
+    let kept : (h : ℕ) (us s : List ℕ) → HasStarts h us s c.args.starts.now → firsts_kept h us (cover h rs) ≡ true =
+    λ h us s has. ap (λ (x : ℕ). firsts_kept x us (cover x rs)) (same h us s has) ∙ (w.written us s (at-k h us s has)).0 in
+    let test = rw c.room_for.ensures at c.if-not-has_room.ensures in
+    let sent : (h : ℕ) (us s : List ℕ) (d : Draws) (m : Sending) → HasStarts h us s c.args.starts.now → Ordered g.C.Cipher.gives s h n rs c.args.session d m →
+    SentIn (world g.C.Cipher.gives d) h m c.args.out.now c.write_checked.new.out =
+    λ h us s d m has o.
+    subst (λ (x : ℕ). SentIn (world g.C.Cipher.gives d) x m c.args.out.now c.write_checked.new.out) (sym (same h us s has))
+    ((w.written us s (at-k h us s has)).2 d m (subst (λ (x : ℕ). Ordered g.C.Cipher.gives s x n rs c.args.session d m) (same h us s has) o)) in
     record {
-      answer =
-          λ h s has.
-          let none : lowest (send_faults h n rs) ≡ None = ap (λ (x : ℕ). lowest (send_faults x n rs)) (same h s has) ∙ sym c.in_default.ensures in
-          let test = rw c.room_for.ensures at c.if-not-has_room.ensures in
-          rw (none, ← test, size h s has) refl;
+      answer = λ h us s has. rw (none h us s has, ← test, kept h us s has, size h us s has) refl;
+      own_starts = own_starts;
       within = rw c.size_of_sending.ensures w.within;
-      parts = λ h s has. (w.written s (at-k h s has)).1 ∙ ap (λ (x : ℕ). over (cover x rs) c.args.parts.now) (sym (same h s has));
-      memory =
-          λ h s d m has o.
-          let at = subst (λ (x : ℕ). Ordered g.C.Cipher.gives s x n rs c.args.session d m) (same h s has) o in
-          ((w.written s (at-k h s has)).2 d m at).1 ∙ ap (λ (x : ℕ). over (sent_file (world g.C.Cipher.gives d) x m) c.args.out.now) (sym (same h s has));
+      parts = λ h us s has. rw (none h us s has, ← test) (w.noted ∙ ap (λ (x : ℕ). over (cover x rs) c.args.parts.now) (sym (same h us s has)));
+      memory = λ h us s d m has o. (sent h us s d m has o).1;
+      refused = λ h us s has. tt;
       read_back =
-          λ h s d m has o.
-          let at = subst (λ (x : ℕ). Ordered g.C.Cipher.gives s x n rs c.args.session d m) (same h s has) o in
-          let v = world g.C.Cipher.gives d in
-          let here = subst (λ (x : ℕ). SentIn v x m c.args.out.now c.write_checked.new.out) (sym (same h s has)) ((w.written s (at-k h s has)).2 d m at) in
-          let none : None ≡ lowest (send_faults h m.number m.revoked) =
-          c.in_default.ensures ∙ ap (λ (x : ℕ). lowest (send_faults x n rs)) (sym (same h s has))
-          ∙ ap (λ (x : ℕ). lowest (send_faults h x rs)) (sym o.number) ∙ ap (λ (r : List ℕ). lowest (send_faults h m.number r)) (sym o.revoked) in
-          sent_back v h m c.args.out.now c.write_checked.new.out none here n rs c.size_of_sending.result o.number o.revoked (size h s has);
+          λ h us s d m has o.
+          let fine : None ≡ lowest (send_faults h m.number m.revoked) =
+          sym (none h us s has) ∙ ap (λ (x : ℕ). lowest (send_faults h x rs)) (sym o.number) ∙ ap (λ (r : List ℕ). lowest (send_faults h m.number r)) (sym o.revoked) in
+          sent_back (world g.C.Cipher.gives d) h m c.args.out.now c.write_checked.new.out fine (sent h us s d m has o) n rs c.size_of_sending.result o.number o.revoked (size h us s has);
       few = covers;
       air = file_is_air;
       secret = sendings_secret;
       over_bytes = shows_bytes;
     }
 
--- with the starts of the revoked receivers, nothing fails
-never : (g : _) (c : goal.After-from_residual g) → (h : ℕ) (s : List ℕ) → HasStarts h c.args.revoked.now s c.args.starts.now → ⊥
-never g c h s has =
-    c.in_err-count.ensures.written s (subst (λ (x : ℕ). HasStarts x c.args.revoked.now s c.args.starts.now) (sym (c.height-height.ensures ∙ has.height)) has)
-
-pub returns-in_err-count-clause-answer : goal.returns-in_err-count-clause-answer
-returns-in_err-count-clause-answer g c h s has = absurd (never g c h s has)
-
-pub returns-in_err-count-clause-parts : goal.returns-in_err-count-clause-parts
-returns-in_err-count-clause-parts g c h s has = absurd (never g c h s has)
-
-pub returns-in_err-count-clause-memory : goal.returns-in_err-count-clause-memory
-returns-in_err-count-clause-memory g c h s d m has o = absurd (never g c h s has)
-
-pub returns-in_err-count-clause-read_back : goal.returns-in_err-count-clause-read_back
-returns-in_err-count-clause-read_back g c h s d m has o = absurd (never g c h s has)
-
-pub returns-in_err-count-clause-few : goal.returns-in_err-count-clause-few
-returns-in_err-count-clause-few g c = covers
-
-pub returns-in_err-count-clause-air : goal.returns-in_err-count-clause-air
-returns-in_err-count-clause-air g c = file_is_air
-
-pub returns-in_err-count-clause-secret : goal.returns-in_err-count-clause-secret
-returns-in_err-count-clause-secret g c = sendings_secret
-
-pub returns-in_err-count-clause-over_bytes : goal.returns-in_err-count-clause-over_bytes
-returns-in_err-count-clause-over_bytes g c = shows_bytes
+-- a start is missing
+pub returns-in_err-count : goal.returns-in_err-count
+returns-in_err-count g c =
+    let p = err_from_is_err_and c.from_residual.result c.from_residual.ensures.1 in
+    let k = c.height-height.result in
+    let n = c.args.number in
+    let rs = c.args.revoked.now in
+    let w = c.in_err-count.ensures in
+    let same : (h : ℕ) (us s : List ℕ) → HasStarts h us s c.args.starts.now → h ≡ k = λ h us s has. sym (c.height-height.ensures ∙ has.height) in
+    let at-k : (h : ℕ) (us s : List ℕ) → HasStarts h us s c.args.starts.now → HasStarts k us s c.args.starts.now =
+    λ h us s has. subst (λ (x : ℕ). HasStarts x us s c.args.starts.now) (same h us s has) has in
+    let none : (h : ℕ) (us s : List ℕ) → HasStarts h us s c.args.starts.now → lowest (send_faults h n rs) ≡ None =
+    λ h us s has. ap (λ (x : ℕ). lowest (send_faults x n rs)) (same h us s has) ∙ sym c.in_default.ensures in
+    let missing : (h : ℕ) (us s : List ℕ) → HasStarts h us s c.args.starts.now → firsts_kept h us (cover h rs) ≡ false =
+    λ h us s has. ap (λ (x : ℕ). firsts_kept x us (cover x rs)) (same h us s has) ∙ (w.written us s (at-k h us s has)).0 in
+    let test = rw c.room_for.ensures at c.if-not-has_room.ensures in
+    rw (p.1, p.2)
+    record {
+      answer = λ h us s has. rw (none h us s has, ← test, missing h us s has, (w.written us s (at-k h us s has)).1) refl;
+      own_starts = own_starts;
+      within = tt;
+      parts = λ h us s has. rw (none h us s has, ← test) (w.noted ∙ ap (λ (x : ℕ). over (cover x rs) c.args.parts.now) (sym (same h us s has)));
+      memory = λ h us s d m has o. (w.written us s (at-k h us s has)).2;
+      refused = λ h us s has. (w.written us s (at-k h us s has)).2;
+      read_back = λ h us s d m has o. tt;
+      few = covers;
+      air = file_is_air;
+      secret = sendings_secret;
+      over_bytes = shows_bytes;
+    }
