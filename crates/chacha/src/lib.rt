@@ -141,10 +141,8 @@ fn added(s: State, t: State) -> State
 fn serialized(s: State) -> [u8; 64]
     ensures { result ≡ flat_map bytes_of (words s) }
 {
-    let mut bytes = [0; 64];
     let words = words(s).map(u32::to_le_bytes);
-    bytes.copy_from_slice(words.as_flattened());
-    bytes
+    words.as_flattened().try_into().unwrap()
 }
 
 fn words(s: State) -> [u32; 16]

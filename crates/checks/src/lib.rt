@@ -3,20 +3,15 @@
 
 #[cfg(test)]
 mod tests {
-    use fault::{Fault, Refusal};
+    use fault::{Fault, Refusal, number_in};
     use tree::cover::cover;
     use tree::parts::Part;
     use wire::labels::read_labels;
     use wire::revocation::{MAX_REVOKED, read_revocation, write_revocation};
 
-    // The number of the refusal, or 0.
-    fn number_of<T: Drop>(answer: Result<T, Fault>) -> u8 {
-        answer.err().map_or(0, Fault::number)
-    }
-
     // The number of the refusal of a revocation list, or 0.
     fn refusal(bytes: &[u8]) -> u8 {
-        number_of(read_revocation(bytes, &mut [7; MAX_REVOKED]))
+        number_in(read_revocation(bytes, &mut [7; MAX_REVOKED]))
     }
 
     #[test]
@@ -79,7 +74,7 @@ mod tests {
         bytes[5] = receiver;
         bytes[41] = first;
         bytes[45] = node;
-        number_of(read_labels(&bytes))
+        number_in(read_labels(&bytes))
     }
 
     #[test]

@@ -2,9 +2,9 @@
 //! Assumes nothing.
 #![tactic(auto)]
 
-ghost use Rattle.std.specs.Prelude.{◌≡◌, Some, nat_le};
+ghost use Rattle.std.specs.Prelude.{◌≡◌, Some};
 ghost use Rattle.fault.specs.declared.Refusal.TheVariants.{Faulty};
-ghost use Rattle.fault.specs.Numbers.{number_of};
+ghost use Rattle.fault.specs.Numbers.{number_of, number_in};
 ghost use Rattle.fault.specs.Lowest.{when, lower, lowest, LowestLeast};
 
 use std::fmt;
@@ -84,6 +84,13 @@ impl From<Fault> for Refusal {
     fn from(fault: Fault) -> Refusal {
         Refusal::Faulty(fault)
     }
+}
+
+/// The number of the fault of an answer, or 0.
+pub fn number_in<T: Drop>(answer: Result<T, Fault>) -> u8
+    ensures { result ≡ number_in answer }
+{
+    answer.err().map_or(0, Fault::number)
 }
 
 /// A fault, or another one that has a lower number.

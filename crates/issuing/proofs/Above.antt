@@ -33,8 +33,8 @@ missing_above h us x n (suc m) l e = go (cases_eq n m) (λ k. missing_above h us
     go (inl q) f = and_right (all_kept h us x m) (is_kept h us (x / 2 ^ suc m)) (rw (← q) e)
     go (inr ne) f = and_left (all_kept h us x m) (is_kept h us (x / 2 ^ suc m)) (f (omega (arith, ne)))
 
-pub gathered : (h : ℕ) (us s : List ℕ) (u : ℕ) (v : Sources) → v.height ≡ h → v.receiver ≡ u → v.own ≡ leaf h u → ltb u (2 ^ h) ≡ true → v.all ≡ start_in s 0 →
-    AllAbove h us s v.own v.height v.above → GatheredFor h us s u v
+pub gathered : (h : ℕ) (us s : List ℕ) (u : ℕ) (v : Sources) → v.height.levels ≡ h → v.receiver ≡ u → v.own ≡ leaf h u → ltb u (2 ^ h) ≡ true → v.all ≡ start_in s 0 →
+    AllAbove h us s v.own v.height.levels v.above → GatheredFor h us s u v
 gathered h us s u v eh eu eo there all above =
     let (kept, each) = rw (eh, eo) at above in
     record { served = and_from (ltb u (2 ^ h)) (all_kept h us (leaf h u) h) there kept; height = eh; receiver = eu; all = all; above = each }

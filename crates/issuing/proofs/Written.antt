@@ -29,7 +29,7 @@ module _ (f : List ℕ → ℕ → List ℕ) (d : Draws) (g h : ℕ) (us s : Lis
   unfolding bytes
   of_all = gathered.all ∙ sym (drawn 0 (omega (arith, pow-suc 2 h, low)))
 
-  of_above : v.own ≡ leaf v.height v.receiver → StartsAbove w g v.height v.own v.above
+  of_above : v.own ≡ leaf v.height.levels v.receiver → StartsAbove w g v.height.levels v.own v.above
   unfolding bytes
   of_above own =
       let at : v.own ≡ leaf h u = rw (gathered.height, gathered.receiver) at own in
@@ -39,11 +39,11 @@ module _ (f : List ℕ → ℕ → List ℕ) (d : Draws) (g h : ℕ) (us s : Lis
       let small : node < 2 ^ suc h = omega (arith, up_le (suc k) (leaf h u), up_div (suc k) (leaf h u), low, pow-suc 2 h) in
       gathered.above k l ∙ sym (drawn node small))
 
-  pub wrote : (before after : List ℕ) → v.own ≡ leaf v.height v.receiver →
-      (StartOfAll w g v.all → StartsAbove w g v.height v.own v.above → WroteFile w g v.height v.receiver before after) → WroteFile w g h u before after
+  pub wrote : (before after : List ℕ) → v.own ≡ leaf v.height.levels v.receiver →
+      (StartOfAll w g v.all → StartsAbove w g v.height.levels v.own v.above → WroteFile w g v.height.levels v.receiver before after) → WroteFile w g h u before after
   wrote before after own file =
       subst (λ (k : ℕ). WroteFile w g k u before after) gathered.height
-      (subst (λ (r : ℕ). WroteFile w g v.height r before after) gathered.receiver (file of_all (of_above own)))
+      (subst (λ (r : ℕ). WroteFile w g v.height.levels r before after) gathered.receiver (file of_all (of_above own)))
 
 -- the front of what is written is read back
 pub read_back : (w : World) (g h u n : ℕ) (before after : List ℕ) → is_height h ≡ true → u < 2 ^ h → n ≡ labels_size h → WroteFile w g h u before after →

@@ -8,7 +8,7 @@ use Rattle.issuing.specs.Served.{is_served}
 -- the starts of the file s that receiver u needs, all of which were kept for the receivers us
 pub record GatheredFor (h : ℕ) (us s : List ℕ) (u : ℕ) (v : Sources) : Type 0 where
   pub served : is_served h us u ≡ true
-  pub height : v.height ≡ h
+  pub height : v.height.levels ≡ h
   pub receiver : v.receiver ≡ u
   pub all : v.all ≡ start_in s 0
   pub above : (k : ℕ) → k < h → slice_index_or v.above k [] ≡ start_in s (leaf h u / 2 ^ suc k)

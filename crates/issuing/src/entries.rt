@@ -1,5 +1,5 @@
 //! The labels under one node, worked out on the way from it down to a receiver and written with their places. Assumes nothing.
-ghost use Rattle.std.specs.Prelude.{◌≡◌, ℕ, ◌*◌, ◌/◌, ◌^◌, ◌<◌, ◌≤◌, length};
+ghost use Rattle.std.specs.Prelude.{◌≡◌, ℕ, ◌*◌, ◌/◌, ◌^◌, ◌≤◌, length};
 ghost use Rattle.tree.specs.Nodes.{max_height};
 ghost use Rattle.tree.specs.Ways.{sibling, hanging};
 ghost use Rattle.secrecy.specs.Terms.{Start, side};

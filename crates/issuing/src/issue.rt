@@ -1,9 +1,8 @@
 //! A receiver's label file, from the starts that were read for it. Assumes nothing.
-ghost use Rattle.std.specs.Prelude.{◌≡◌, ℕ, ◌≤◌, false, not, List, length, take, IfSome, IfOk, MatchOption, OnErr};
+ghost use Rattle.std.specs.Prelude.{◌≡◌, ℕ, ◌≤◌, false, not, List, length, take, IfOk, MatchOption, OnErr};
 ghost use Rattle.fault.specs.declared.Fault.TheVariants.{OutOfRange};
 ghost use Rattle.fault.specs.Lowest.{when, lowest};
 ghost use Rattle.fault.specs.Memory.{fitted, afterwards};
-ghost use Rattle.tree.specs.Nodes.{max_height, leaf};
 ghost use Rattle.secrecy.specs.Held.{held};
 ghost use Rattle.secrecy.specs.Worlds.{seen};
 ghost use Rattle.keys.specs.Drawn.{Draws, world};
@@ -19,16 +18,15 @@ use fault::{Fault, Refusal};
 use keys::Key;
 use keys::cipher::Cipher;
 use starts::table::Starts;
-use tree::nodes::leaf_of;
+use tree::heights::Height;
 use wire::labels::size_of_labels;
 
 /// The starts of the nodes above a leaf, from below upwards, if all were kept.
-fn starts_above(starts: &Starts, height: u8, own: u32) -> Option<[Key; LEVELS]>
-    requires { height ≤ max_height }
-    ensures { (h : ℕ) (us s : List ℕ) → HasStarts h us s starts.now → MatchOption result (all_kept h us own height ≡ false) (AllAbove h us s own height) }
+fn starts_above(starts: &Starts, height: Height, own: u32) -> Option<[Key; LEVELS]>
+    ensures { (h : ℕ) (us s : List ℕ) → HasStarts h us s starts.now → MatchOption result (all_kept h us own height.levels ≡ false) (AllAbove h us s own height.levels) }
 {
     let mut above = [[0; 32]; LEVELS];
-    for level in 0..height {
+    for level in 0..height.levels {
         above[level as usize] = starts.of(own >> (level + 1))?;
     }
     Some(above)
@@ -38,8 +36,8 @@ fn starts_above(starts: &Starts, height: u8, own: u32) -> Option<[Key; LEVELS]>
 fn gather(starts: &Starts, receiver: u32) -> Option<Sources>
     ensures { (h : ℕ) (us s : List ℕ) → HasStarts h us s starts.now → MatchOption result (is_served h us receiver ≡ false) (GatheredFor h us s receiver) }
 {
-    let height = starts.height();
-    let own = leaf_of(height, receiver)?;
+    let height = Height::try_from(starts.height()).ok()?;
+    let own = height.leaf(receiver)?;
     let all = starts.of(0)?;
     let above = starts_above(starts, height, own)?;
     Some(Sources {
@@ -68,7 +66,7 @@ pub fn write_labels<C: Cipher>(
     let Some(sources) = gather(starts, receiver) else {
         return Err(Fault::OutOfRange.into());
     };
-    let size = size_of_labels(sources.height);
+    let size = size_of_labels(sources.height.levels);
     if out.len() < size {
         return Err(Refusal::NoRoom);
     }

@@ -1,10 +1,11 @@
 -- A label is what going down makes of one above it. Assumes nothing.
 use Rattle.std.proofs.Common.{◌≡◌, ℕ, zero, suc, ◌+◌, ◌/◌, ◌^◌, ◌<◌, ◌≤◌, true, cond, T, eqb, ◌⊎◌, sym, refl, ap, ◌∙◌, inl, inr, div-one, arith}
+use Rattle.std.proofs.lemmas.Float.{T_from_true}
 use Rattle.std.proofs.lemmas.Bool.{ne_eqb, and_parts, ltb-true, cond-false}
 use Rattle.tree.specs.declared.parts.Part.{Part}
 use Rattle.tree.specs.Nodes.{below}
 use Rattle.tree.specs.Parts.{proper}
-use Rattle.tree.proofs.Tests.{T_true, true_T}
+use Rattle.tree.proofs.Tests.{T_true}
 use Rattle.tree.proofs.Up.{up, half_first, up_zero, up_add, up_far, Under, below_up}
 use Rattle.secrecy.specs.Terms.{Term, Start, side, label, label_of}
 use Rattle.secrecy.proofs.Labels.{label_self, label_step, proper_is}
@@ -50,4 +51,4 @@ part_label g h i j (inr (pos, lt, under)) =
 
 -- a part's label is what going down makes of the start of its first node
 pub part_down : (g h : ℕ) (p : Part) → proper h p ≡ true → down (nodes_down h p.first p.second) (Start g p.first) ≡ label_of g h p
-part_down g h p e = part_label g h p.first p.second (proper_is h p (true_T (proper h p) e))
+part_down g h p e = part_label g h p.first p.second (proper_is h p (T_from_true (proper h p) e))

@@ -1,8 +1,9 @@
 -- The key of a part is the middle of where the walk from its start ends. Assumes nothing.
 use Rattle.std.proofs.Common.{◌≡◌, ℕ, true, cond, T, List, Some, None, Option, refl, ap, ◌∙◌}
+use Rattle.std.proofs.lemmas.Float.{T_from_true}
 use Rattle.tree.specs.declared.parts.Part.{Part}
 use Rattle.tree.specs.Parts.{proper}
-use Rattle.tree.proofs.Tests.{true_T, told}
+use Rattle.tree.proofs.Tests.{told}
 use Rattle.secrecy.specs.Terms.{Start, Middle, label_of}
 use Rattle.secrecy.specs.Worlds.{Point, bytes}
 use Rattle.keys.specs.Asking.{point}
@@ -25,7 +26,7 @@ module _ (f : List ℕ → ℕ → List ℕ) (h : ℕ) (p : Part) (n : ℕ)
   label_is d g e = walked d (Start g p.first) e ∙ rw all_steps (ap (bytes (world f d)) (part_down g h p is_proper))
 
   pub key_is : (k : List ℕ) → WorksOut f Middle label k → T (proper h p) × PartKey f h p start k
-  key_is k middle = (true_T (proper h p) is_proper, λ d g e. middle d (label_of g h p) (label_is d g e))
+  key_is k middle = (T_from_true (proper h p) is_proper, λ d g e. middle d (label_of g h p) (label_is d g e))
 
   pub key_asked : {S : Type 0} (steps : S → Point → S → Type 0) (s t u : S) → AskedDown f steps (last_nodes n p.second) start s t → steps t (point label 1) u →
       AskedKey f steps h p start s u

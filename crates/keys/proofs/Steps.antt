@@ -1,11 +1,11 @@
 -- How far one node is below another. Assumes nothing.
 use Rattle.std.proofs.Common.{◌≡◌, ℕ, zero, suc, ◌+◌, ◌*◌, ◌/◌, ◌^◌, ◌<◌, ◌≤◌, true, false, cond, ◌&&◌, eqb, ltb, Some, None, Option, sym, refl, ap, ◌∙◌, ⊎_elim, pow-suc, pow_pos, arith}
+use Rattle.std.proofs.lemmas.Float.{T_from_true}
 use Rattle.std.proofs.Math.Pow.{pow_mono}
-use Rattle.std.proofs.lemmas.Bool.{eq-eqb, ne_eqb, lt-ltb, ltb-true, and_parts, and_from, or_right, both_ways, cases_Bool, cases_order, cond-true, cond-false}
+use Rattle.std.proofs.lemmas.Bool.{eq-eqb, ne_eqb, lt-ltb, ltb-true, and_parts, and_from, or_right, both_ways, cases_Bool, cases_order, cond-true, cond-false, false_from_ne_true}
 use Rattle.tree.specs.declared.parts.Part.{Part}
 use Rattle.tree.specs.Nodes.{below, in_tree}
 use Rattle.tree.specs.Parts.{is_all, descends, proper}
-use Rattle.tree.proofs.Tests.{not_true, true_T}
 use Rattle.tree.proofs.Up.{up, up_le, up_far, Under, below_up, up_below, under_below}
 use Rattle.secrecy.proofs.Labels.{proper_is}
 use Rattle.keys.specs.Down.{reaches, steps_down}
@@ -37,7 +37,7 @@ module _ (h i j : ℕ) (in_tree_lem : j < 2 ^ suc h) where
   pub missed : (0 < i → Under i j → ⊥) → ◌≡◌ {A = Option ℕ} None (cond (reaches h i j) (Some (steps_down h i j)) None)
   missed never =
       let e : reaches h i j ≡ false =
-      not_true (reaches h i j) (λ t. let w = and_parts (ltb 0 i) (below h i j) t in never (ltb-true 0 i w.0) (below_up h i j w.1)) in
+      false_from_ne_true (reaches h i j) (λ t. let w = and_parts (ltb 0 i) (below h i j) t in never (ltb-true 0 i w.0) (below_up h i j w.1)) in
       rw e
 
 -- no number lies between two neighbouring powers of two and between two others
@@ -72,7 +72,7 @@ proper_two h p in_tree_lem two = ⊎_elim right wrong (cases_Bool (reaches h p.f
         or_right (is_all p) (in_tree h p.first && in_tree h p.second && descends h p) (rw (at, first-in, second-pos, second-in, under, other)) ∙ sym e
 
     wrong : reaches h p.first p.second ≡ false → proper h p ≡ reaches h p.first p.second
-    wrong e = not_true (proper h p) (λ t. ⊎_elim same strict (proper_is h p (true_T (proper h p) t))) ∙ sym e
+    wrong e = false_from_ne_true (proper h p) (λ t. ⊎_elim same strict (proper_is h p (T_from_true (proper h p) t))) ∙ sym e
       where
         same : (p.first ≡ 0) × (p.second ≡ 0) → ⊥
         same (a, b) = two (a ∙ sym b)

@@ -4,9 +4,9 @@ use mathlib.Core.List.Memᴰ
 use mathlib.Core.List.Memᴰ.{head as here}
 use mathlib.Core.List.Memᴰ.{tail as there}
 use Rattle.std.specs.List.{flat_map}
-use Rattle.std.proofs.lemmas.Bool.{both_ways, eqb-true, eq-eqb, cond_both, cond-true, cond-false}
+use Rattle.std.proofs.lemmas.Bool.{both_ways, eqb-true, eq-eqb, cond_both, cond-true, cond-false, false_from_ne_true}
 use Rattle.tree.specs.declared.parts.Part.{Part}
-use Rattle.tree.proofs.Tests.{T_true, not_true}
+use Rattle.tree.proofs.Tests.{T_true}
 use Rattle.secrecy.specs.Lists.{◌∈◌}
 use Rattle.secrecy.specs.Terms.{Term, Session, is_label, label_of, key, show_key, made}
 use Rattle.secrecy.specs.Air.{Trial, true_parts, view}
@@ -141,7 +141,7 @@ blind h log once own labels s none w real run value fresh = (
     agree : (q : Point) → q ∈ asks w have run → block' c q.at q.counter ≡ w.block q.at q.counter
     agree q m =
         cond-false (opened c q.at q.counter) (xors (pick c hide q.at q.counter) (delta c)) (pick c hide q.at q.counter)
-        (not_true (opened c q.at q.counter) (λ e. unopened ((opens_at_decides (new c) h s log q.at q.counter).0 e)))
+        (false_from_ne_true (opened c q.at q.counter) (λ e. unopened ((opens_at_decides (new c) h s log q.at q.counter).0 e)))
         ∙ pick_miss c hide q.at q.counter (λ t k. fresh.unasked t q k m)
       where
         unopened : OpensAt (new c) h s log q.at q.counter → ⊥

@@ -6,10 +6,9 @@ use mathlib.Core.List.Memᴰ.{tail as there}
 use mathlib.Core.List.{List-discrete}
 use native.Mathlib.Decide.{ℕ_discrete}
 use Rattle.std.proofs.lemmas.List.{take_at, drop_at}
-use Rattle.std.proofs.lemmas.Bool.{both_ways, cond_both, cond-true, cond-false}
+use Rattle.std.proofs.lemmas.Bool.{both_ways, cond_both, cond-true, cond-false, false_from_ne_true}
 use Rattle.std.proofs.lemmas.Bool.Decides.{Decides-eqb, Decides-and}
 use Rattle.tree.specs.declared.parts.Part.{Part}
-use Rattle.tree.proofs.Tests.{not_true}
 use Rattle.secrecy.specs.Lists.{◌∈◌}
 use Rattle.secrecy.specs.Terms.{Term, Term-discrete, Start, Left, Right, Middle, is_label, key, made}
 use Rattle.secrecy.specs.Air.{Trial, true_parts}
@@ -112,7 +111,7 @@ module _ (c : Change) where
 
   pub new_old : (t : Term) → (t ∈ c.hide → ⊥) → new t ≡ was t
   unfolding new
-  new_old t f = cond-false (hides t) (c.value t) (was t) (not_true (hides t) (λ e. f ((hides_decides t).0 e)))
+  new_old t f = cond-false (hides t) (c.value t) (was t) (false_from_ne_true (hides t) (λ e. f ((hides_decides t).0 e)))
 
   pub new_is : (t : Term) → t ∈ c.hide → new t ≡ c.value t
   unfolding new
@@ -169,7 +168,7 @@ module _ (c : Change) where
   pick_miss [] x n f = refl
   pick_miss (t ∷ ts) x n f =
       cond-false (same (c.value t) x) (moved t n) (pick ts x n)
-      (not_true (same (c.value t) x) (λ e. f t (here refl) ((same_decides (c.value t) x).0 e)))
+      (false_from_ne_true (same (c.value t) x) (λ e. f t (here refl) ((same_decides (c.value t) x).0 e)))
       ∙ pick_miss ts x n (λ u m. f u (there m))
 
   pick_hit : (ts : List Term) (t : Term) (n : ℕ) → t ∈ ts → ((u : Term) → u ∈ ts → c.value t ≡ c.value u → t ≡ u) →
@@ -205,7 +204,7 @@ module _ (c : Change) where
   unfolding block'
   block_low x n l =
       cond-false (opened x n) (xors (pick c.hide x n) delta) (pick c.hide x n)
-      (not_true (opened x n) (λ e. let o = (opens_at_decides new c.height c.draw c.log x n).0 e in omega (arith, o.2.1.0)))
+      (false_from_ne_true (opened x n) (λ e. let o = (opens_at_decides new c.height c.draw c.log x n).0 e in omega (arith, o.2.1.0)))
 
   -- what comes from a term by a cut of a low block comes from its new value
   new_step : (t u : Term) (n : ℕ) (cut : List ℕ → List ℕ) → n < 2 → t ∈ made u → cut (moved t n) ≡ new u → cut (block_at t n) ≡ was u →

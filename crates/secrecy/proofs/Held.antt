@@ -1,16 +1,17 @@
 -- Receivers know the labels of just those parts that one of them is in. Assumes nothing.
 use Rattle.std.proofs.Common.{◌≡◌, ℕ, zero, suc, ◌+◌, ◌-◌, ◌/◌, ◌^◌, ◌<◌, ◌≤◌, Bool, true, false, cond, not, ◌&&◌, T, eqb, ◌⊎◌, List, sym, refl, ap, ◌∙◌, subst, ap₂, inl, inr, ⊎_elim, pow-suc, arith, pow_mono}
+use Rattle.std.proofs.lemmas.Float.{T_from_true}
 use mathlib.Core.List.Memᴰ
 use mathlib.Core.List.Memᴰ.{head as here}
 use mathlib.Core.List.Memᴰ.{tail as there}
 use Rattle.std.specs.List.{flat_map}
-use Rattle.std.proofs.lemmas.Bool.{both_ways, cases_Bool, eqb-true, eqb-false, ne_eqb, cond_both}
+use Rattle.std.proofs.lemmas.Bool.{both_ways, cases_Bool, eqb-true, eqb-false, ne_eqb, cond_both, false_from_ne_true}
 use Rattle.tree.specs.declared.parts.Part.{Part}
 use Rattle.tree.specs.Nodes.{leaf, below}
 use Rattle.tree.specs.Receivers.{all_below}
 use Rattle.tree.specs.Parts.{part, holds}
 use Rattle.tree.specs.Ways.{sibling}
-use Rattle.tree.proofs.Tests.{T_true, true_T, not_true}
+use Rattle.tree.proofs.Tests.{T_true}
 use Rattle.tree.proofs.Up.{up, up_le, up_half, up_add, up_far, Under, below_up, under_below, below_not_mono}
 use Rattle.secrecy.specs.Lists.{◌∈◌}
 use Rattle.secrecy.specs.Terms.{Term, Start, is_label, label, label_of, made}
@@ -33,7 +34,7 @@ from_held gs h who t m =
     (a.0, b.0, b.1, b.2)
 
 pub held_labels : HeldLabels
-held_labels gs h who t m = let w = from_held gs h who t m in true_T (is_label t) (held_is w.0 h w.1 t w.3)
+held_labels gs h who t m = let w = from_held gs h who t m in T_from_true (is_label t) (held_is w.0 h w.1 t w.3)
 
 -- only the start of 0 is a label of node 0
 tip_pos : (t : Term) → is_label t ≡ true → 1 ≤ root t → 1 ≤ tip t
@@ -50,7 +51,7 @@ module _ (h u : ℕ) (small : u < 2 ^ h) where
   in_part : (i j : ℕ) → 1 ≤ i → Under i x → (Under j x → ⊥) → holds h u (part i j) ≡ true
   in_part i j pos a off =
       go (eqb i 0) (below h i x) (below h j x) (ne_eqb i 0 (λ z. omega arith)) (under_below h x in_tree_lem i pos a)
-      (not_true (below h j x) (λ t. off (below_up h j x t)))
+      (false_from_ne_true (below h j x) (λ t. off (below_up h j x t)))
     where
       go : (z b c : Bool) → z ≡ false → b ≡ true → c ≡ false → cond z true (b && not c) ≡ true
       go z b c e f g = grind arith
@@ -154,7 +155,7 @@ module _ (gs : List ℕ) (h : ℕ) (who : List ℕ) (small : T (all_below (2 ^ h
   knows_someone (l, m, n) =
       let w = from_held gs h who l m in
       let u = w.1 in
-      (u, w.2, true_T (holds h u p) (knows_holds h u (all_lt (2 ^ h) who small u w.2) g w.0 p pr l w.3 n))
+      (u, w.2, T_from_true (holds h u p) (knows_holds h u (all_lt (2 ^ h) who small u w.2) g w.0 p pr l w.3 n))
 
   pub someone_knows : g ∈ gs → SomeoneIn h who p → Knows (held_by gs h who) (label_of g h p)
   someone_knows tree (u, m, t) =

@@ -1,5 +1,6 @@
 -- Lists: tests over them with what they decide, what is in a joined list, and lists whose numbers all differ. Assumes nothing.
 use Rattle.std.proofs.Common.{◌≡◌, ℕ, ◌<◌, Bool, true, false, not, ◌||◌, T, eqb, ltb, ◌⊎◌, List, [], ◌∷◌, map, Decides, sym, refl, ap, ◌∙◌, subst, inl, inr, ⊎_elim, ltb→lt, T_not}
+use Rattle.std.proofs.lemmas.Float.{T_from_true}
 use mathlib.Core.List.Memᴰ
 use mathlib.Core.List.Memᴰ.{head as here}
 use mathlib.Core.List.Memᴰ.{tail as there}
@@ -7,7 +8,7 @@ use Rattle.std.specs.List.{flat_map, AllByRecursion as All}
 use Rattle.std.proofs.lemmas.Bool.{both_ways, eq-eqb, or_cases, or_left, or_right}
 use Rattle.std.proofs.lemmas.Bool.Decides.{Decides-like}
 use Rattle.tree.specs.Receivers.{is_in, all_below}
-use Rattle.tree.proofs.Tests.{T_both, true_T}
+use Rattle.tree.proofs.Tests.{T_both}
 use Rattle.secrecy.specs.Lists.{◌∈◌, different}
 
 unfoldable pub any : {A : Type 0} → (A → Bool) → List A → Bool
@@ -87,7 +88,7 @@ by_value {A} f (x ∷ xs) d a b m n e = go (λ p q. by_value f xs both.1 a b p q
     fresh : (c : A) → c ∈ xs → f x ≡ f c → ⊥
     fresh c q r =
         T_not (is_in (f x) (map f xs)) both.0
-        (true_T (is_in (f x) (map f xs)) (ap (λ (n : ℕ). is_in n (map f xs)) r ∙ is_in_lem (map f xs) (f c) (Memᴰ.map f q)))
+        (T_from_true (is_in (f x) (map f xs)) (ap (λ (n : ℕ). is_in n (map f xs)) r ∙ is_in_lem (map f xs) (f c) (Memᴰ.map f q)))
 
     go : (a ∈ xs → b ∈ xs → a ≡ b) → (a ≡ x) ⊎ (a ∈ xs) → (b ≡ x) ⊎ (b ∈ xs) → a ≡ b
     go f' (inl p) (inl q) = p ∙ sym q

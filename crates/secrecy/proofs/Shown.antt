@@ -1,14 +1,15 @@
 -- Who gets which show: the theorems on receivers, from those on labels. Assumes nothing.
 use Rattle.std.proofs.Common.{◌≡◌, ℕ, ◌^◌, ◌≤◌, Bool, true, false, cond, not, ◌&&◌, T, ltb, List, [], ◌∷◌, sym, refl, ap, ◌∙◌, subst, subst₂, ⊎_elim, arith, T_not}
+use Rattle.std.proofs.lemmas.Float.{T_from_true}
 use mathlib.Core.List.Memᴰ
 use mathlib.Core.List.Memᴰ.{head as here}
 use mathlib.Core.List.Memᴰ.{tail as there}
-use Rattle.std.proofs.lemmas.Bool.{and_from, lt-ltb}
+use Rattle.std.proofs.lemmas.Bool.{and_from, lt-ltb, false_from_ne_true}
 use Rattle.std.specs.List.{flat_map}
 use Rattle.tree.specs.Receivers.{is_in, all_below}
 use Rattle.tree.specs.Parts.{holds, in_how_many}
 use Rattle.tree.specs.Cover.{cover}
-use Rattle.tree.proofs.Tests.{T_true, true_T, not_true}
+use Rattle.tree.proofs.Tests.{T_true}
 use Rattle.tree.proofs.Exact.{exact, counted, counts}
 use Rattle.tree.proofs.Neat.{neat}
 use Rattle.secrecy.specs.Lists.{◌∈◌, Within}
@@ -40,7 +41,7 @@ module _ (gs : List ℕ) (h : ℕ) (who : List ℕ) (small : T (all_below (2 ^ h
       let u = v.0 in
       let one = counts h u (cover h a.revoked) p j (T_true (holds h u p) v.2) in
       let rule = exact h a.revoked u (all_lt (2 ^ h) who small u v.1) in
-      (u, v.1, true_T (not (is_in u a.revoked)) (ap not (go (is_in u a.revoked) (in_how_many h u (cover h a.revoked)) rule one)))
+      (u, v.1, T_from_true (not (is_in u a.revoked)) (ap not (go (is_in u a.revoked) (in_how_many h u (cover h a.revoked)) rule one)))
     where
       go : (b : Bool) (n : ℕ) → n ≡ cond b 0 1 → 1 ≤ n → b ≡ false
       go b n e l = grind arith
@@ -49,11 +50,11 @@ module _ (gs : List ℕ) (h : ℕ) (who : List ℕ) (small : T (all_below (2 ^ h
   left_opens : (a : Sending) → a.tree ∈ gs → SomeoneLeft who a → Opens own h (as_trial h a)
   left_opens a tree (u, m, t) =
       let revoked = is_in u a.revoked in
-      let free : revoked ≡ false = not_true revoked (λ q. T_not revoked t (true_T revoked q)) in
+      let free : revoked ≡ false = false_from_ne_true revoked (λ q. T_not revoked t (T_from_true revoked q)) in
       let rule = exact h a.revoked u (all_lt (2 ^ h) who small u m) ∙ ap (λ (b : Bool). cond b 0 1) free in
       let v = counted h u (cover h a.revoked) (omega (arith, rule)) in
       let p = v.0 in
-      (p, v.1, someone_knows gs h who small a.tree p (proper_is h p (neat h a.revoked p v.1)) tree (u, m, true_T (holds h u p) v.2))
+      (p, v.1, someone_knows gs h who small a.tree p (proper_is h p (neat h a.revoked p v.1)) tree (u, m, T_from_true (holds h u p) v.2))
 
   module _ (ss : List Sending) (ts : List Trial) (sound : Sound gs h ss ts) where
     -- receivers open a header of a show exactly if one of them was not revoked in a sending of it
@@ -105,7 +106,7 @@ number_twice h a b e et p m n u small left =
         (gets_sealed have h log (as_trial h a) (here refl) p m)
 
     alone : T (all_below (2 ^ h) (u ∷ []))
-    alone = true_T (ltb u (2 ^ h) && true) (and_from (ltb u (2 ^ h)) true (lt-ltb u (2 ^ h) small) refl)
+    alone = T_from_true (ltb u (2 ^ h) && true) (and_from (ltb u (2 ^ h)) true (lt-ltb u (2 ^ h) small) refl)
 
     first : Gets (view have h log) (Session a.session)
     first =

@@ -5,9 +5,9 @@ use mathlib.Core.List.Memᴰ
 use mathlib.Core.List.Memᴰ.{head as here}
 use mathlib.Core.List.Memᴰ.{tail as there}
 use Rattle.std.specs.List.{flat_map}
-use Rattle.std.proofs.lemmas.Bool.{cases_eq, eqb-true, eq-eqb, ne_eqb, cond_both, cond-true, cond-false}
+use Rattle.std.proofs.lemmas.Bool.{cases_eq, eqb-true, eq-eqb, ne_eqb, cond_both, cond-true, cond-false, false_from_ne_true}
 use Rattle.tree.specs.declared.parts.Part.{Part}
-use Rattle.tree.proofs.Tests.{T_true, not_true}
+use Rattle.tree.proofs.Tests.{T_true}
 use Rattle.secrecy.specs.Lists.{◌∈◌}
 use Rattle.secrecy.specs.Terms.{Term, Session, is_label, label_of, key, made}
 use Rattle.secrecy.specs.Held.{Labels}
@@ -84,7 +84,7 @@ module _ (c : Change) (once : Once c.log) (own : List Term) (labels : Labels own
 
       go : (m.session ≡ c.draw) ⊎ (m.session ≡ c.draw → ⊥) → opened c x (counter m) ≡ changes m
       go (inl e) = decides.1 (m, k, (e, (refl, (p, j, refl)))) ∙ sym (eq-eqb m.session c.draw e)
-      go (inr e) = not_true (opened c x (counter m)) (λ q. e (by_number (decides.0 q))) ∙ sym (ne_eqb m.session c.draw e)
+      go (inr e) = false_from_ne_true (opened c x (counter m)) (λ q. e (by_number (decides.0 q))) ∙ sym (ne_eqb m.session c.draw e)
 
   -- so a header has the same bytes
   header_same : (m : Trial) → m ∈ c.log → (p : Part) → p ∈ true_parts m → (t : Term) → t ∈ header c.height m p → now t ≡ was t
@@ -186,4 +186,4 @@ covered h log once own labels w real s s' b = (
     agree k n f =
         cond-false (opened c k n) (xors (w.block k n) (delta c)) (w.block k n)
         (ap (λ (v : Term → List ℕ). opens_at v h s log k n) {x = new c} {y = bytes w} (fun_ext (λ t. refl))
-        ∙ not_true (opens_at (bytes w) h s log k n) (λ e. f ((opens_at_decides (bytes w) h s log k n).0 e)))
+        ∙ false_from_ne_true (opens_at (bytes w) h s log k n) (λ e. f ((opens_at_decides (bytes w) h s log k n).0 e)))

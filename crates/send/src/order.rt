@@ -1,7 +1,7 @@
 //! What is to be sent, by the files that the arguments name. The lowest fault of all of them and of the number is the answer.
 use cli::Stop;
 use cli::pieces::Pieces;
-use fault::{Fault, lower_of};
+use fault::Fault;
 use keys::Key;
 use starts::head::read_height;
 use starts::reader::StartsReader;
@@ -82,8 +82,8 @@ pub fn read_order(
         fault_of(&starts),
         fault_in_number(number),
     ];
-    if let Some(fault) = faults.into_iter().fold(None, lower_of) {
-        return Err(Stop::Refused(fault));
+    if let Some(fault) = faults.into_iter().flatten().min() {
+        return Err(fault.into());
     }
     Ok(Order {
         starts: starts?,

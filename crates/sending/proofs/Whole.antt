@@ -1,6 +1,7 @@
 -- A whole sending: its front, and its headers behind it. Assumes nothing.
-use Rattle.std.proofs.Common.{◌≡◌, ℕ, ◌-◌, List, [], ◌∷◌, ◌++◌, map, length, take, drop, None, sym, refl, ap, ◌∙◌, subst, ap₂, append_assoc}
+use Rattle.std.proofs.Common.{◌≡◌, ℕ, ◌-◌, List, [], ◌∷◌, ◌++◌, map, length, take, drop, None, sym, refl, ap, ◌∙◌, subst, ap₂}
 use borrow.Rule.Slice.PartMut.{put_mid}
+use Rattle.std.proofs.lemmas.Grind.{flat_map-append}
 use Rattle.std.proofs.lemmas.List.{length-map, take_at}
 use Rattle.std.specs.List.{flat_map}
 use Rattle.fault.specs.Lowest.{lowest}
@@ -57,14 +58,10 @@ module _ (w : World) (h : ℕ) (m : Sending) (before after : List ℕ) (none : N
       subst (λ (r : List ℕ). ReadsAsSent (take size after) h n (cover h r) (map (covered w h (as_trial h m)) (cover h r))) er
       (subst (λ (x : ℕ). ReadsAsSent (take size after) h x ps headers) en (sent_reads size (e ∙ ap (λ (r : List ℕ). sending_size (length (cover h r))) (sym er))))
 
-joined_append : {A B : Type 0} (f : A → List B) (xs ys : List A) → flat_map f (xs ++ ys) ≡ flat_map f xs ++ flat_map f ys
-joined_append f [] ys = refl
-joined_append f (x ∷ xs) ys = ap (λ l. f x ++ l) (joined_append f xs ys) ∙ sym (append_assoc (f x) (flat_map f xs) (flat_map f ys))
-
 -- the bytes of what is made of each, one behind the other
 joined_joined : {A B C : Type 0} (f : B → List C) (g : A → List B) (xs : List A) → flat_map (λ x. flat_map f (g x)) xs ≡ flat_map f (flat_map g xs)
 joined_joined f g [] = refl
-joined_joined f g (x ∷ xs) = ap (λ l. flat_map f (g x) ++ l) (joined_joined f g xs) ∙ sym (joined_append f (g x) (flat_map g xs))
+joined_joined f g (x ∷ xs) = ap (λ l. flat_map f (g x) ++ l) (joined_joined f g xs) ∙ sym (flat_map-append f (g x) (flat_map g xs))
 
 pub file_is_air : FileIsAir
 unfolding noises
@@ -75,7 +72,7 @@ heard_is_air : (w : World) (h : ℕ) (ss : List Sending) → heard w h ss ≡ fl
 unfolding noises
 heard_is_air w h [] = refl
 heard_is_air w h (m ∷ ss) =
-    ap₂ ◌++◌ (file_is_air w h m) (heard_is_air w h ss) ∙ sym (joined_append (bytes w) (sent h (as_trial h m)) (air h (signals h ss [])))
+    ap₂ ◌++◌ (file_is_air w h m) (heard_is_air w h ss) ∙ sym (flat_map-append (bytes w) (sent h (as_trial h m)) (air h (signals h ss [])))
 
 pub sendings_secret : SendingsSecret
 sendings_secret gs h ss sound = ((λ w. heard_is_air w h ss), λ who fine m mem. shows gs h ss [] sound who fine m mem)

@@ -1,5 +1,5 @@
 //! The header of a part: a session key and sixteen zero bytes under the part's key. Assumes nothing.
-ghost use Rattle.std.specs.Prelude.{◌≡◌, ℕ, suc, ◌^◌, ◌<◌, ◌≤◌, T, ◌++◌, replicate, MatchResult};
+ghost use Rattle.std.specs.Prelude.{◌≡◌, ℕ, suc, ◌^◌, ◌<◌, T, ◌++◌, replicate, MatchResult};
 ghost use Rattle.tree.specs.Parts.{proper};
 ghost use Rattle.secrecy.specs.Air.{Trial};
 ghost use Rattle.secrecy.specs.Terms.{Start, Session};

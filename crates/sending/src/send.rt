@@ -1,5 +1,5 @@
 //! A whole sending, from the starts that were read for its revoked receivers. Assumes nothing.
-ghost use Rattle.std.specs.Prelude.{◌≡◌, ℕ, ◌-◌, ◌/◌, ◌≤◌, true, false, List, map, length, take, IfOk, OnErr, None, MatchResult};
+ghost use Rattle.std.specs.Prelude.{◌≡◌, ℕ, ◌≤◌, true, false, List, map, length, take, IfOk, OnErr, MatchResult};
 ghost use Rattle.fault.specs.declared.Fault.TheVariants.{OutOfRange};
 ghost use Rattle.fault.specs.declared.Refusal.TheVariants.{Faulty};
 ghost use Rattle.fault.specs.Lowest.{lowest};
@@ -18,7 +18,7 @@ ghost use Rattle.sending.specs.Secret.{SendingsSecret};
 ghost use Rattle.sending.specs.Sent.{covered, sent_file, Ordered, SentIn, FileIsAir};
 
 use crate::headers::{has_starts, write_headers};
-use crate::show::Show;
+use crate::show::{Order, Show};
 use fault::{Fault, Refusal, lower_of};
 use keys::Key;
 use keys::cipher::Cipher;
@@ -44,39 +44,36 @@ fn room_for(noted: usize, bytes: usize) -> usize
 }
 
 /// The cover of all but the revoked, in the front of lent memory, and how many parts it has.
-fn cover_rest(height: u8, revoked: &[u32], parts: &mut [Part]) -> Result<u32, Refusal>
-    ensures answer { result ≡ cover_answer height revoked.now (length parts.old) }
-    ensures memory { parts.new ≡ afterwards result (cover height revoked.now) parts.old }
+fn cover_rest(order: Order, parts: &mut [Part]) -> Result<u32, Refusal>
+    ensures answer { result ≡ cover_answer order.entry.height order.entry.revoked.now (length parts.old) }
+    ensures memory { parts.new ≡ afterwards result (cover order.entry.height order.entry.revoked.now) parts.old }
     ensures within { IfOk result (λ n. n ≤ length parts.new) }
 {
-    let count = cover(height, revoked, parts)?;
+    let count = cover(order.height, order.revoked, parts)?;
     Ok(count as u32)
 }
 
-/// Writes a sending whose number and revoked receivers have no fault, where there is room for it, and answers how many parts it has.
-fn write_checked<C: Cipher>(
+/// Writes what was ordered where there is room for it, and answers how many parts it has.
+fn write_order<C: Cipher>(
     cipher: &mut C,
     starts: &Starts,
-    height: u8,
-    revoked: &[u32],
-    show: Show,
+    order: Order,
     parts: &mut [Part],
     out: &mut [u8],
 ) -> Result<u32, Refusal>
-    requires sound { None ≡ lowest (send_faults height show.number revoked.now) }
-    requires noted { most (length revoked.now) ≤ length parts.old }
-    requires room { sending_size (most (length revoked.now)) ≤ length out.old }
+    requires noted { most (length order.revoked.now) ≤ length parts.old }
+    requires room { sending_size (most (length order.revoked.now)) ≤ length out.old }
     ensures within { IfOk result (λ n. sending_size n ≤ length out.old) }
-    ensures noted { parts.new ≡ over (cover height revoked.now) parts.old }
-    ensures written { (us s : List ℕ) → HasStarts height us s starts.now → MatchResult result (λ n. (firsts_kept height us (cover height revoked.now) ≡ true) × (n ≡ length (cover height revoked.now)) × ((d : Draws) (m : Sending) → Ordered C.Cipher.gives s height show.number revoked.now show.session d m → SentIn (world C.Cipher.gives d) height m out.old out.new)) (λ r. (firsts_kept height us (cover height revoked.now) ≡ false) × (r ≡ Faulty OutOfRange) × (out.new ≡ out.old)) }
+    ensures noted { parts.new ≡ over (cover order.entry.height order.entry.revoked.now) parts.old }
+    ensures written { (us s : List ℕ) → HasStarts order.entry.height us s starts.now → MatchResult result (λ n. (firsts_kept order.entry.height us (cover order.entry.height order.entry.revoked.now) ≡ true) × (n ≡ length (cover order.entry.height order.entry.revoked.now)) × ((d : Draws) (m : Sending) → Ordered C.Cipher.gives s order.entry.height order.entry.show.number order.entry.revoked.now order.entry.show.session d m → SentIn (world C.Cipher.gives d) order.entry.height m out.old out.new)) (λ r. (firsts_kept order.entry.height us (cover order.entry.height order.entry.revoked.now) ≡ false) × (r ≡ Faulty OutOfRange) × (out.new ≡ out.old)) }
 {
-    let count = cover_rest(height, revoked, parts)?;
+    let count = cover_rest(order, parts)?;
     let cover = &parts[0..count as usize];
     if !has_starts(starts, cover) {
         return Err(Fault::OutOfRange.into());
     }
-    out[0..HEAD].copy_from_slice(&head_bytes(height, show.number, count));
-    write_headers(cipher, starts, cover, show, &mut out[HEAD..])?;
+    out[0..HEAD].copy_from_slice(&head_bytes(order.height, order.show.number, count));
+    write_headers(cipher, starts, cover, order.show, &mut out[HEAD..])?;
     Ok(count)
 }
 
@@ -110,7 +107,11 @@ pub fn write_sending<C: Cipher>(
     if !has_room(revoked.len(), room_for(parts.len(), out.len())) {
         return Err(Refusal::NoRoom);
     }
-    let show = Show { number, session };
-    let count = write_checked(cipher, starts, height, revoked, show, parts, out)?;
+    let order = Order {
+        height,
+        revoked,
+        show: Show { number, session },
+    };
+    let count = write_order(cipher, starts, order, parts, out)?;
     Ok(size_of_sending(count))
 }

@@ -1,11 +1,12 @@
 -- The nodes on a level above rising receivers: where they lie, how many they are, and that they rise. Assumes nothing.
 use Rattle.std.proofs.Common.{◌≡◌, ℕ, zero, suc, ◌+◌, ◌-◌, ◌*◌, ◌/◌, ◌^◌, ◌<◌, ◌≤◌, T, eqb, ltb, leb, List, [], ◌∷◌, ◌++◌, map, length, ap, ◌∙◌, subst, mul_comm, add-mul, pow-suc, zero-add, arith, pow_pos}
+use Rattle.std.proofs.lemmas.Float.{T_from_true}
 use Rattle.std.proofs.lemmas.List.{length-append, length-map}
 use Rattle.std.proofs.lemmas.Bool.{cond_both, eqb-true, eqb-false, leb-true, le-leb, lt-ltb, ltb-true, ne_eqb}
 use Rattle.tree.specs.Nodes.{leaf}
 use Rattle.tree.specs.Receivers.{all_below, rising_from, rising}
 use Rattle.tree.proofs.Slices.{below_weaker, rising_weaker}
-use Rattle.tree.proofs.Tests.{T_both, T_true, both_T, true_T}
+use Rattle.tree.proofs.Tests.{T_both, T_true, both_T}
 use Rattle.tree.proofs.Up.{up, up_div}
 use Rattle.starts.specs.Levels.{node_on, unrepeated, level_above, levels_above}
 
@@ -64,14 +65,14 @@ unrepeated_behind last (x ∷ xs) w =
     cond_both (eqb x last) (unrepeated last xs) (x ∷ unrepeated x xs) (λ (ys : List ℕ). T (rising_from (suc last) ys))
     (λ e. unrepeated_behind last xs (subst (λ (y : ℕ). Weakly y xs) (eqb-true x last e) w.1))
     (λ e. both_T (leb (suc last) x) (rising_from (suc x) (unrepeated x xs))
-    (true_T (leb (suc last) x) (le-leb (suc last) x (omega (arith, w.0, eqb-false x last e)))) (unrepeated_behind x xs w.1))
+    (T_from_true (leb (suc last) x) (le-leb (suc last) x (omega (arith, w.0, eqb-false x last e)))) (unrepeated_behind x xs w.1))
 
 unrepeated_rise : (least : ℕ) (xs : List ℕ) → 0 < least → Weakly least xs → T (rising_from least (unrepeated 0 xs))
 unfolding unrepeated rising_from
 unrepeated_rise least [] pos w = tt
 unrepeated_rise least (x ∷ xs) pos w =
     rw (ne_eqb x 0 (λ e. omega (arith, w.0)))
-    (both_T (leb least x) (rising_from (suc x) (unrepeated x xs)) (true_T (leb least x) (le-leb least x w.0)) (unrepeated_behind x xs w.1))
+    (both_T (leb least x) (rising_from (suc x) (unrepeated x xs)) (T_from_true (leb least x) (le-leb least x w.0)) (unrepeated_behind x xs w.1))
 
 unrepeated_below : (n last : ℕ) (xs : List ℕ) → T (all_below n xs) → T (all_below n (unrepeated last xs))
 unfolding unrepeated all_below
@@ -93,7 +94,7 @@ unfolding all_below
 map_below f m n [] g b = tt
 map_below f m n (u ∷ us) g b =
     let p = T_both (ltb u m) (all_below m us) b in
-    both_T (ltb (f u) n) (all_below n (map f us)) (true_T (ltb (f u) n) (lt-ltb (f u) n (g u (ltb-true u m (T_true (ltb u m) p.0))))) (map_below f m n us g p.1)
+    both_T (ltb (f u) n) (all_below n (map f us)) (T_from_true (ltb (f u) n) (lt-ltb (f u) n (g u (ltb-true u m (T_true (ltb u m) p.0))))) (map_below f m n us g p.1)
 
 below_append : (n : ℕ) (xs ys : List ℕ) → T (all_below n xs) → T (all_below n ys) → T (all_below n (xs ++ ys))
 unfolding all_below

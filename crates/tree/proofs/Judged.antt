@@ -1,5 +1,6 @@
 -- A list of receivers is judged from its front to its end. Assumes nothing.
 use Rattle.std.proofs.Common.{◌≡◌, ℕ, suc, ◌+◌, ◌-◌, ◌^◌, ◌<◌, ◌≤◌, Bool, true, false, not, ◌||◌, T, eqb, ltb, leb, ◌⊎◌, List, [], ◌∷◌, ◌++◌, length, get_or, drop, None, Some, Option, sym, refl, inl, inr, add-one, arith, ap, ◌∙◌, ap₂, pow_mono}
+use Rattle.std.proofs.lemmas.Float.{T_from_true}
 use Rattle.std.proofs.lemmas.List.{at_drop_more, at_drop_all}
 use Rattle.std.proofs.lemmas.Bool.{and_parts, leb-true, ltb-true, both_ways, or_cases, eqb-true}
 use Rattle.std.proofs.lemmas.Bool.Decides.{nat_tests}
@@ -9,7 +10,7 @@ use Rattle.fault.specs.Lowest.{when, lower, lowest}
 use Rattle.fault.proofs.Lowest.{lower_assoc}
 use Rattle.tree.specs.Nodes.{max_height}
 use Rattle.tree.specs.Receivers.{is_in, all_below, rising_from, rising, is_height, list_faults}
-use Rattle.tree.proofs.Tests.{T_both, T_true, true_T}
+use Rattle.tree.proofs.Tests.{T_both, T_true}
 
 ltb_not : (a b : ℕ) → ltb a b ≡ not (leb b a)
 ltb_not a b = grind (arith, nat_tests)
@@ -94,7 +95,7 @@ sound_height h xs e = (no_faults (is_height h) (all_below (2 ^ h) xs) (rising xs
 pub sound : (h : ℕ) (xs : List ℕ) → None ≡ lowest (list_faults h xs) → (h ≤ max_height) × T (all_below (2 ^ h) xs) × T (rising xs)
 sound h xs e =
     let s = no_faults (is_height h) (all_below (2 ^ h) xs) (rising xs) e in
-    (leb-true h max_height (and_parts (ltb 0 h) (leb h max_height) (sound_height h xs e)).1, true_T (all_below (2 ^ h) xs) s.1, true_T (rising xs) s.2)
+    (leb-true h max_height (and_parts (ltb 0 h) (leb h max_height) (sound_height h xs e)).1, T_from_true (all_below (2 ^ h) xs) s.1, T_from_true (rising xs) s.2)
 
 -- rising receivers are no more than there are
 pub rising_short : (least n : ℕ) (xs : List ℕ) → T (rising_from least xs) → T (all_below n xs) → length xs ≤ n - least

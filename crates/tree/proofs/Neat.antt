@@ -1,5 +1,6 @@
 -- Each part of a cover is (0, 0), or a node of the tree and one strictly below it. Assumes nothing.
 use Rattle.std.proofs.Common.{◌≡◌, ℕ, zero, suc, ◌+◌, ◌-◌, ◌*◌, ◌^◌, ◌<◌, ◌≤◌, false, not, ◌&&◌, T, eqb, ltb, List, [], ◌∷◌, sym, subst, ⊎_elim, arith, pow_pos, pow_mono}
+use Rattle.std.proofs.lemmas.Float.{T_from_true}
 use mathlib.Core.List.Memᴰ
 use mathlib.Core.List.{Memᴰ}
 use Rattle.std.proofs.lemmas.Bool.{and_from, or_right, lt-ltb, not_from_false, cond_both}
@@ -8,7 +9,6 @@ use Rattle.tree.specs.Nodes.{below, in_tree, Level}
 use Rattle.tree.specs.Receivers.{is_in}
 use Rattle.tree.specs.Parts.{part, is_all, descends, proper}
 use Rattle.tree.specs.Cover.{Work, clean, named, close, join, work, finish, cover}
-use Rattle.tree.proofs.Tests.{true_T}
 use Rattle.tree.proofs.Up.{up_zero, up_le, Under, trans, under_left, under_right, under_below}
 use Rattle.tree.proofs.Exact.{level_left, level_right}
 
@@ -19,7 +19,7 @@ module _ (h : ℕ) where
       let first = and_from (ltb 0 i) (ltb i (2 ^ suc h)) (lt-ltb 0 i (omega arith)) (lt-ltb i (2 ^ suc h) (omega arith)) in
       let second = and_from (ltb 0 j) (ltb j (2 ^ suc h)) (lt-ltb 0 j (omega arith)) (lt-ltb j (2 ^ suc h) low) in
       let down = and_from (below h i j) (not (eqb i j)) (under_below h j low i pos (d, e)) (not_from_false (eqb i j) differ) in
-      true_T (proper h (part i j))
+      T_from_true (proper h (part i j))
       (or_right (is_all (part i j)) (in_tree h i && in_tree h j && descends h (part i j))
       (and_from (in_tree h i && in_tree h j) (descends h (part i j)) (and_from (in_tree h i) (in_tree h j) first second) down))
 

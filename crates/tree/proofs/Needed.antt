@@ -1,5 +1,6 @@
 -- The second node of each part of a cover but (0, 0) is at or above a revoked receiver. Assumes nothing.
 use Rattle.std.proofs.Common.{◌≡◌, ℕ, zero, suc, ◌+◌, ◌-◌, ◌*◌, ◌^◌, ◌<◌, ◌≤◌, true, T, eqb, ◌⊎◌, List, [], ◌∷◌, sym, ◌∙◌, subst, inl, inr, ⊎_elim, pow-suc, arith, pow_pos}
+use Rattle.std.proofs.lemmas.Float.{T_from_true}
 use mathlib.Core.List.Memᴰ
 use mathlib.Core.List.{Memᴰ}
 use Rattle.std.proofs.lemmas.Bool.{cond_both}
@@ -9,7 +10,6 @@ use Rattle.tree.specs.Receivers.{is_in}
 use Rattle.tree.specs.Parts.{part, is_all}
 use Rattle.tree.specs.Cover.{Work, clean, named, close, join, work, finish, cover}
 use Rattle.tree.specs.Promise.{AboveRevoked}
-use Rattle.tree.proofs.Tests.{true_T}
 use Rattle.tree.proofs.Up.{up_zero, Under, trans, under_left, under_right, under_below}
 use Rattle.tree.proofs.Exact.{level_left, level_right}
 
@@ -60,7 +60,7 @@ module _ (h : ℕ) (rs : List ℕ) where
 
   as_promised : (j : ℕ) → Above j → AboveRevoked h rs j
   as_promised j (pos, (u, low, asked, a)) =
-      (u, true_T (is_in u rs) asked, true_T (below h j (leaf h u)) (under_below h (leaf h u) (omega (arith, pow-suc 2 h)) j pos a))
+      (u, T_from_true (is_in u rs) asked, T_from_true (below h j (leaf h u)) (under_below h (leaf h u) (omega (arith, pow-suc 2 h)) j pos a))
 
   pub needed : (p : Part) → Memᴰ p (cover h rs) → T (is_all p) ⊎ AboveRevoked h rs p.second
   needed p = go (work h rs h 1) (work_needed 0 h 1 (omega arith) (omega arith))

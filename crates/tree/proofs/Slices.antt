@@ -1,10 +1,11 @@
 -- Rising receivers, by their places and in slices. Assumes nothing.
 use Rattle.std.proofs.Common.{◌≡◌, ℕ, zero, suc, ◌<◌, ◌≤◌, T, true, false, ltb, leb, List, [], ◌∷◌, length, get_or, take, drop, inl, inr, arith}
+use Rattle.std.proofs.lemmas.Float.{T_from_true}
 use Rattle.std.proofs.lemmas.Bool.{leb-true, le-leb, ltb-true, ltb-false, lt-ltb, cases_eq}
 use Rattle.std.proofs.lemmas.List.{get_or_default}
 use Rattle.std.specs.List.Sorted.{IsPartitionPoint, IsPartitionedBy}
 use Rattle.tree.specs.Receivers.{Cut, all_below, rising_from, rising}
-use Rattle.tree.proofs.Tests.{T_both, both_T, T_true, true_T}
+use Rattle.tree.proofs.Tests.{T_both, both_T, T_true}
 
 from_first : (least : ℕ) (xs : List ℕ) (i : ℕ) → T (rising_from least xs) → i < length xs → least ≤ get_or xs i 0
 unfolding rising_from
@@ -32,7 +33,7 @@ unfolding rising_from
 rising_weaker l m [] le r = tt
 rising_weaker l m (x ∷ xs) le r =
     let b = T_both (leb m x) (rising_from (suc x) xs) r in
-    both_T (leb l x) (rising_from (suc x) xs) (true_T (leb l x) (le-leb l x (omega (arith, leb-true m x (T_true (leb m x) b.0))))) b.1
+    both_T (leb l x) (rising_from (suc x) xs) (T_from_true (leb l x) (le-leb l x (omega (arith, leb-true m x (T_true (leb m x) b.0))))) b.1
 
 pub rising_take : (l : ℕ) (xs : List ℕ) (k : ℕ) → T (rising_from l xs) → T (rising_from l (take k xs))
 unfolding rising_from
@@ -49,14 +50,14 @@ module _ (m : ℕ) where
   below_take xs zero f = tt
   below_take [] (suc k) f = tt
   below_take (x ∷ xs) (suc k) f =
-      both_T (ltb x m) (all_below m (take k xs)) (true_T (ltb x m) (lt-ltb x m (f 0 (omega arith)))) (below_take xs k (λ j l. f (suc j) (omega arith)))
+      both_T (ltb x m) (all_below m (take k xs)) (T_from_true (ltb x m) (lt-ltb x m (f 0 (omega arith)))) (below_take xs k (λ j l. f (suc j) (omega arith)))
 
   pub rising_drop : (l : ℕ) (xs : List ℕ) (k : ℕ) → T (rising_from l xs) → ((j : ℕ) → k ≤ j → j < length xs → m ≤ get_or xs j 0) → T (rising_from m (drop k xs))
   unfolding rising_from
   rising_drop l [] zero r f = tt
   rising_drop l (x ∷ xs) zero r f =
       let b = T_both (leb l x) (rising_from (suc x) xs) r in
-      both_T (leb m x) (rising_from (suc x) xs) (true_T (leb m x) (le-leb m x (f 0 (omega arith) (omega arith)))) b.1
+      both_T (leb m x) (rising_from (suc x) xs) (T_from_true (leb m x) (le-leb m x (f 0 (omega arith) (omega arith)))) b.1
   rising_drop l [] (suc k) r f = tt
   rising_drop l (x ∷ xs) (suc k) r f =
       rising_drop (suc x) xs k (T_both (leb l x) (rising_from (suc x) xs) r).1 (λ j a b. f (suc j) (omega arith) (omega arith))
@@ -72,7 +73,7 @@ unfolding all_below
 below_weaker m n [] le b = tt
 below_weaker m n (x ∷ xs) le b =
     let p = T_both (ltb x m) (all_below m xs) b in
-    both_T (ltb x n) (all_below n xs) (true_T (ltb x n) (lt-ltb x n (omega (arith, ltb-true x m (T_true (ltb x m) p.0))))) (below_weaker m n xs le p.1)
+    both_T (ltb x n) (all_below n xs) (T_from_true (ltb x n) (lt-ltb x n (omega (arith, ltb-true x m (T_true (ltb x m) p.0))))) (below_weaker m n xs le p.1)
 
 -- rising receivers come to m once
 pub parted : (m : ℕ) (xs : List ℕ) → T (rising xs) → IsPartitionedBy (λ y. ltb y m) xs

@@ -10,13 +10,6 @@ pub T_true : (b : Bool) → T b → b ≡ true
 T_true true t = refl
 T_true false t = absurd t
 
-pub true_T : (b : Bool) → b ≡ true → T b
-true_T b e = rw e tt
-
-pub not_true : (b : Bool) → (b ≡ true → ⊥) → b ≡ false
-not_true true f = absurd (f refl)
-not_true false f = refl
-
 pub both_T : (a b : Bool) → T a → T b → T (a && b)
 both_T true b s t = t
 both_T false b s t = absurd s

@@ -1,9 +1,8 @@
 -- Going up the tree: what is at or below what. Assumes nothing.
 use Rattle.std.proofs.Common.{◌≡◌, ℕ, zero, suc, ◌+◌, ◌*◌, ◌/◌, ◌^◌, ◌<◌, ◌≤◌, true, false, eqb, ◌≢◌, ◌⊎◌, sym, refl, ap, ◌∙◌, inl, inr, mul_comm, pow-suc, div-one, arith}
 use native.Mathlib.Nat.{div-div-eq-div-mul}
-use Rattle.std.proofs.lemmas.Bool.{both_ways, cases_Bool, cases_order, cases_eq, eqb-true, eq-eqb, or_cases, or_left, or_right}
+use Rattle.std.proofs.lemmas.Bool.{both_ways, cases_Bool, cases_order, cases_eq, eqb-true, eq-eqb, or_cases, or_left, or_right, false_from_ne_true}
 use Rattle.tree.specs.Nodes.{below}
-use Rattle.tree.proofs.Tests.{not_true}
 
 -- d steps up from x
 unfoldable pub up : ℕ → ℕ → ℕ
@@ -119,10 +118,10 @@ module _ (h x : ℕ) (in_tree_lem : x < 2 ^ suc h) where
   below_mono i j pos a t = under_below i pos (trans i j x a (below_up h j x t))
 
   pub below_not_mono : (i j : ℕ) → 1 ≤ i → Under i j → below h i x ≡ false → below h j x ≡ false
-  below_not_mono i j pos a f = not_true (below h j x) (λ t. both_ways (below h i x) f (below_mono i j pos a t))
+  below_not_mono i j pos a f = false_from_ne_true (below h j x) (λ t. both_ways (below h i x) f (below_mono i j pos a t))
 
   pub below_disjoint : (i : ℕ) → 1 ≤ i → below h (2 * i) x ≡ true → below h (2 * i + 1) x ≡ false
-  below_disjoint i pos t = not_true (below h (2 * i + 1) x) (λ r. disjoint i x pos (below_up h (2 * i) x t) (below_up h (2 * i + 1) x r))
+  below_disjoint i pos t = false_from_ne_true (below h (2 * i + 1) x) (λ r. disjoint i x pos (below_up h (2 * i) x t) (below_up h (2 * i + 1) x r))
 
   -- a leaf is below neither a node nor the two below it, or below the node and just one of the two
   abbrev pub Where : ℕ → Type 0
@@ -138,7 +137,7 @@ module _ (h x : ℕ) (in_tree_lem : x < 2 ^ suc h) where
       go2 t (inl a) = let l = under_below (2 * i) (omega arith) a in inr (inl (t, l, below_disjoint i pos l))
       go2 t (inr a) =
           let r = under_below (2 * i + 1) (omega arith) a in
-          inr (inr (t, not_true (below h (2 * i) x) (λ l. both_ways (below h (2 * i + 1) x) (below_disjoint i pos l) r), r))
+          inr (inr (t, false_from_ne_true (below h (2 * i) x) (λ l. both_ways (below h (2 * i + 1) x) (below_disjoint i pos l) r), r))
 
       go : (below h i x ≡ true) ⊎ (below h i x ≡ false) → Where i
       go (inl t) = go2 t (halves i x ne (below_up h i x t))

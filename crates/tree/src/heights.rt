@@ -1,5 +1,5 @@
 //! Heights that a tree may have, and what a tree of one has. Assumes nothing.
-ghost use Rattle.std.specs.Prelude.{◌≡◌, ◌^◌, ◌<◌, ◌≤◌, false, ◌&&◌, if◌then◌else◌, Some, None, MatchResult, nat_lt};
+ghost use Rattle.std.specs.Prelude.{◌≡◌, ◌^◌, ◌<◌, ◌≤◌, false, if◌then◌else◌, Some, None, MatchResult, nat_lt};
 ghost use Rattle.fault.specs.declared.Fault.TheVariants.{OutOfRange};
 ghost use Rattle.tree.specs.Nodes.{max_height, leaf, in_tree};
 ghost use Rattle.tree.specs.Receivers.{is_height};

@@ -1,5 +1,5 @@
 //! A node with all that is below it. Assumes nothing.
-ghost use Rattle.std.specs.Prelude.{◌≡◌, ◌+◌, ◌-◌, ◌/◌, ◌<◌, ◌≤◌};
+ghost use Rattle.std.specs.Prelude.{◌≡◌, ◌-◌, ◌/◌, ◌<◌};
 ghost use Rattle.tree.specs.Nodes.{Stands, first_below};
 
 use crate::heights::Height;

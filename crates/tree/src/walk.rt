@@ -1,5 +1,5 @@
 //! Walking a receiver's way up the tree, from one node that hangs off it to the next. Assumes nothing.
-ghost use Rattle.std.specs.Prelude.{◌≡◌, ◌^◌, ◌<◌, ◌&&◌, [], is_some, IfSome, Some, None, MatchOption, nat_lt};
+ghost use Rattle.std.specs.Prelude.{◌≡◌, ◌^◌, ◌<◌, ◌&&◌, [], is_some, IfSome, MatchOption, nat_lt};
 ghost use Rattle.tree.specs.Receivers.{is_height};
 ghost use Rattle.std.specs.Iterator.{YieldsFirst, item_count};
 ghost use Rattle.tree.specs.Ways.{way};

@@ -7,7 +7,7 @@ mod sendings;
 ghost use Rattle.std.specs.Prelude.{◌<◌};
 
 use cli::Stop;
-use fault::Fault;
+use fault::{Fault, number_in};
 use issuing::issue::write_labels;
 use keys::cipher::ChaCha20;
 use sendings::compare_sendings;
@@ -67,10 +67,6 @@ fn compare_labels(rt: &HostRuntime, file: &[u8]) -> Result<(), Stop> {
     Ok(())
 }
 
-fn number_of<T: Drop>(answer: Result<T, Fault>) -> u8 {
-    answer.err().map_or(0, Fault::number)
-}
-
 fn show_refusals(rt: &HostRuntime, file: &[u8]) -> Result<(), Stop> {
     let cut = &file[0..file.len().saturating_sub(1)];
     let cases: [(&str, u8, &[u32], &[u8]); 4] = [
@@ -85,11 +81,11 @@ fn show_refusals(rt: &HostRuntime, file: &[u8]) -> Result<(), Stop> {
         ),
     ];
     for (case, height, receivers, bytes) in cases {
-        let number = number_of(read_starts(rt, height, receivers, bytes, 100)?);
+        let number = number_in(read_starts(rt, height, receivers, bytes, 100)?);
         println!(rt; "{case}: {number}")?;
     }
     let labels = cli::read_file(rt, "h3.0.labels")?;
-    let other = number_of(read_labels_for(HEIGHT + 1, &labels));
+    let other = number_in(read_labels_for(HEIGHT + 1, &labels));
     println!(rt; "labels for a higher tree: {other}")?;
     Ok(())
 }

@@ -1,9 +1,8 @@
 //! A receiver's labels as a file. Assumes nothing.
-ghost use Rattle.std.specs.Prelude.{◌≡◌, ◌%◌, ◌≤◌, ◌&&◌, length, ◌==◌, slice_index};
+ghost use Rattle.std.specs.Prelude.{◌≡◌};
 ghost use Rattle.fault.specs.Lowest.{judged};
-ghost use Rattle.tree.specs.Nodes.{max_height, in_tree};
 ghost use Rattle.tree.specs.Walks.{left_of};
-ghost use Rattle.wire.specs.Entries.{first_place, entry_bytes};
+ghost use Rattle.wire.specs.Entries.{entry_bytes};
 ghost use Rattle.wire.specs.Labels.{places, labels_head, all_in_tree, same_places, labels_size, labels_in, labels_faults, labels_faults_for, said_by};
 
 use crate::entry::entry;

@@ -1,5 +1,5 @@
 //! The revocation list as a file. Assumes nothing.
-ghost use Rattle.std.specs.Prelude.{◌≡◌, ◌+◌, ◌*◌, ◌^◌, ◌<◌, ◌≤◌, length, take, IfOk, if◌then◌else◌, Some, None, nat_eq, nat_lt};
+ghost use Rattle.std.specs.Prelude.{◌≡◌, ◌+◌, ◌*◌, ◌^◌, ◌<◌, ◌≤◌, length, take, IfOk, if◌then◌else◌, Some, None, nat_eq};
 ghost use Rattle.fault.specs.Lowest.{judged, lowest};
 ghost use Rattle.fault.specs.Memory.{afterwards, over};
 ghost use Rattle.wire.specs.Words.{words};
@@ -16,6 +16,9 @@ pub const MAX_REVOKED: usize = 4096;
 /// The most parts that cover all receivers but those of a list.
 pub const MAX_PARTS: usize = 2 * MAX_REVOKED - 1;
 
+/// The bytes before the first receiver.
+const HEAD: usize = 6;
+
 /// What a revocation list says besides its receivers. These stand in lent memory, since reading a list needs no heap.
 #[derive(Clone, Copy)]
 pub struct Revocation {
@@ -28,7 +31,7 @@ fn size_of_list(count: usize) -> usize
     requires { count < 2 ^ 32 }
     ensures { result ≡ 6 + 4 * count }
 {
-    4 * count + 6
+    4 * count + HEAD
 }
 
 /// The lowest fault of receivers that a list names.
@@ -45,7 +48,7 @@ fn fault_in_named<L: ReceiverList>(height: u8, receivers: &L) -> Option<Fault>
 fn count_in(bytes: &[u8]) -> Option<usize>
     ensures { result ≡ (if nat_eq (length bytes.now) (6 + 4 * count_in bytes.now) then Some (count_in bytes.now) else None) }
 {
-    if bytes.len() < 6 {
+    if bytes.len() < HEAD {
         return None;
     }
     let count = word_at(bytes, 2) as usize;
@@ -76,7 +79,7 @@ pub fn read_revocation(
     let Some(count) = count_in(bytes) else {
         return Err(Fault::Malformed);
     };
-    let words = Words { bytes: &bytes[6..] };
+    let words = Words { bytes: &bytes[HEAD..] };
     if let Some(fault) = fault_in_named(height.levels, &words) {
         return Err(fault);
     }
@@ -102,6 +105,6 @@ pub fn write_revocation(height: u8, receivers: &[u32], out: &mut [u8]) -> Result
     }
     write_head(Kind::Revocation, height, out);
     write_word(receivers.len() as u32, &mut out[2..]);
-    write_words(receivers, &mut out[6..]);
+    write_words(receivers, &mut out[HEAD..]);
     Ok(size)
 }

@@ -1,8 +1,8 @@
 //! A sending as a file. Assumes nothing.
-ghost use Rattle.std.specs.Prelude.{◌≡◌, ◌%◌, ◌≤◌, not, ◌&&◌, ◌||◌, ◌++◌, length, ◌==◌};
+ghost use Rattle.std.specs.Prelude.{◌≡◌, not, ◌&&◌, ◌||◌, ◌++◌, length, ◌==◌};
 ghost use Rattle.fault.specs.declared.Fault.TheVariants.{OutOfRange, ImproperPart};
 ghost use Rattle.fault.specs.Lowest.{when, lowest, judged};
-ghost use Rattle.tree.specs.Nodes.{max_height, in_tree, below};
+ghost use Rattle.tree.specs.Nodes.{in_tree, below};
 ghost use Rattle.tree.specs.Parts.{is_all, descends};
 ghost use Rattle.wire.specs.Words.{word_at};
 ghost use Rattle.wire.specs.Entries.{entry_bytes};
@@ -71,11 +71,12 @@ fn is_inside(height: Height, part: Part) -> bool
 }
 
 /// Whether a node is at or below another, at most `height` steps down.
-fn is_below(height: u8, above: u32, node: u32) -> bool
-    ensures { result ≡ below height above node }
+fn is_below(height: Height, above: u32, node: u32) -> bool
+    ensures { result ≡ below height.levels above node }
 {
+    // Unlike who goes down from a label, this judges numbers that may be no nodes of the tree.
     let mut here = node;
-    for _ in 0..height {
+    for _ in 0..height.levels {
         if above == here {
             return true;
         }
@@ -85,8 +86,8 @@ fn is_below(height: u8, above: u32, node: u32) -> bool
 }
 
 /// Whether the second node of a part is strictly below the first, or it is the part of all receivers.
-fn is_descending(height: u8, part: Part) -> bool
-    ensures { result ≡ (is_all part || descends height part) }
+fn is_descending(height: Height, part: Part) -> bool
+    ensures { result ≡ (is_all part || descends height.levels part) }
 {
     part == Part::ALL || is_below(height, part.first, part.second) && part.first != part.second
 }
@@ -98,7 +99,7 @@ fn fault_in_parts(height: Height, headers: &[u8]) -> Option<Fault>
     let mut parts = Places::<HEADER> { entries: headers };
     let inside = parts.all(|part| is_inside(height, part));
     let mut parts = Places::<HEADER> { entries: headers };
-    let descending = parts.all(|part| is_descending(height.levels, part));
+    let descending = parts.all(|part| is_descending(height, part));
     lower_of(
         Fault::OutOfRange.when(!inside),
         Fault::ImproperPart.when(!descending),

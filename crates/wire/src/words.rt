@@ -11,12 +11,7 @@ pub fn word_at(bytes: &[u8], place: usize) -> u32
     requires { place + 4 ≤ length bytes.now }
     ensures { result ≡ word_at bytes.now place }
 {
-    u32::from_be_bytes([
-        bytes[place],
-        bytes[place + 1],
-        bytes[place + 2],
-        bytes[place + 3],
-    ])
+    u32::from_be_bytes(*bytes[place..].first_chunk().unwrap())
 }
 
 /// The numbers that bytes hold, one in each four.
@@ -50,6 +45,7 @@ pub fn write_words(numbers: &[u32], out: &mut [u8])
     requires { 4 * length numbers.now ≤ length out.old }
     ensures { out.new ≡ over (flat_map bytes4 numbers.now) out.old }
 {
+    // Over `chunks_exact_mut` the proof didn't close: nothing is known of what an iterator of `&mut` leaves.
     for (i, number) in numbers.iter().enumerate() {
         write_word(*number, &mut out[4 * i..]);
     }

@@ -9,5 +9,5 @@ abbrev pub invariant-loop-level : goal.invariant-loop-level
 invariant-loop-level g l =
     let v = l.sources in
     (l.at ≡ 40 * length (levels l.level v.own)) ×
-    ((d : Draws) (tree : ℕ) → StartsAbove (world g.C.Cipher.gives d) tree v.height v.own v.above →
-    Filled (world g.C.Cipher.gives d) tree v.height v.own l.initial.out l.level l.out)
+    ((d : Draws) (tree : ℕ) → StartsAbove (world g.C.Cipher.gives d) tree v.height.levels v.own v.above →
+    Filled (world g.C.Cipher.gives d) tree v.height.levels v.own l.initial.out l.level l.out)

@@ -15,7 +15,7 @@ returns-in_err-above c h us s has =
     let n = c.loop-level.level in
     let node = c.args.own / 2 ^ suc n in
     let e = rw (add-one n) at (c.in_err-above.ensures h us s has) in
-    rw c.from_residual.ensures (missing_above h us c.args.own n c.args.height c.loop-level-test.true (untold (is_kept h us node) (start_in s node) e))
+    rw c.from_residual.ensures (missing_above h us c.args.own n c.args.height.levels c.loop-level-test.true (untold (is_kept h us node) (start_in s node) e))
 
 pub loop-level-preserved : goal.loop-level-preserved
 loop-level-preserved c =
@@ -29,4 +29,4 @@ loop-level-preserved c =
     )
 
 pub returns : goal.returns
-returns c h us s has = let all : c.loop-level.level ≡ c.args.height = omega arith in rw all at (c.loop-level.invariant.1 h us s has)
+returns c h us s has = let all : c.loop-level.level ≡ c.args.height.levels = omega arith in rw all at (c.loop-level.invariant.1 h us s has)

@@ -39,7 +39,7 @@ returns-then-out-size g c =
 pub returns : goal.returns
 returns g c =
     let room = length c.args.out.now in
-    let size : (h : ℕ) → c.in-Some.sources.height ≡ h → c.size_of_labels-size.result ≡ labels_size h = λ h e. c.size_of_labels-size.ensures ∙ ap labels_size e in
+    let size : (h : ℕ) → c.in-Some.sources.height.levels ≡ h → c.size_of_labels-size.result ≡ labels_size h = λ h e. c.size_of_labels-size.ensures ∙ ap labels_size e in
     record {
       answer =
           λ h us s has.

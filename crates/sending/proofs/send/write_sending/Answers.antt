@@ -71,9 +71,9 @@ returns g c =
     λ h us s has. ap (λ (x : ℕ). firsts_kept x us (cover x rs)) (same h us s has) ∙ (w.written us s (at-k h us s has)).0 in
     let test = rw c.room_for.ensures at c.if-not-has_room.ensures in
     let sent : (h : ℕ) (us s : List ℕ) (d : Draws) (m : Sending) → HasStarts h us s c.args.starts.now → Ordered g.C.Cipher.gives s h n rs c.args.session d m →
-    SentIn (world g.C.Cipher.gives d) h m c.args.out.now c.write_checked.new.out =
+    SentIn (world g.C.Cipher.gives d) h m c.args.out.now c.write_order.new.out =
     λ h us s d m has o.
-    subst (λ (x : ℕ). SentIn (world g.C.Cipher.gives d) x m c.args.out.now c.write_checked.new.out) (sym (same h us s has))
+    subst (λ (x : ℕ). SentIn (world g.C.Cipher.gives d) x m c.args.out.now c.write_order.new.out) (sym (same h us s has))
     ((w.written us s (at-k h us s has)).2 d m (subst (λ (x : ℕ). Ordered g.C.Cipher.gives s x n rs c.args.session d m) (same h us s has) o)) in
     record {
       answer = λ h us s has. rw (none h us s has, ← test, kept h us s has, size h us s has) refl;
@@ -86,7 +86,7 @@ returns g c =
           λ h us s d m has o.
           let fine : None ≡ lowest (send_faults h m.number m.revoked) =
           sym (none h us s has) ∙ ap (λ (x : ℕ). lowest (send_faults h x rs)) (sym o.number) ∙ ap (λ (r : List ℕ). lowest (send_faults h m.number r)) (sym o.revoked) in
-          sent_back (world g.C.Cipher.gives d) h m c.args.out.now c.write_checked.new.out fine (sent h us s d m has o) n rs c.size_of_sending.result o.number o.revoked (size h us s has);
+          sent_back (world g.C.Cipher.gives d) h m c.args.out.now c.write_order.new.out fine (sent h us s d m has o) n rs c.size_of_sending.result o.number o.revoked (size h us s has);
       few = covers;
       air = file_is_air;
       secret = sendings_secret;

@@ -4,4 +4,4 @@ use Rattle.tree.specs.Nodes.{below}
 use Rattle.wire.proofs.sending.is_below.Given as goal
 
 abbrev pub invariant-loop : goal.invariant-loop
-invariant-loop l = below (l.height - l.counter) l.above l.here ≡ below l.height l.above l.node
+invariant-loop l = below (l.end - l.counter) l.above l.here ≡ below l.end l.above l.node
