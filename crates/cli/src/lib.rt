@@ -89,7 +89,8 @@ pub fn end(rt: &HostRuntime, outcome: Result<(), Stop>) -> Result<(), Stop>
     outcome.inspect_err(|stop| report(rt, stop))
 }
 
-/// The same, with the status that the process ends with. Each program's `main` is this over what it runs.
+/// The same, with the status that the process ends with. Each program's `main` is this over what it runs,
+/// and takes its arguments apart by itself, since help and usage differ.
 pub fn exit_code(rt: &HostRuntime, outcome: Result<(), Stop>) -> ExitCode
     ensures { exit_status result ≡ (if is_ok outcome then 0 else 1) }
 {

@@ -1,4 +1,5 @@
-//! Going down the tree: from a label to one below it, and from a start to the key of a part. Assumes nothing.
+//! Going down the tree: from a label to one below it, and from a start to the key of a part. What is promised holds in a tree of every height that
+//! has the node. Assumes nothing.
 ghost use Rattle.std.specs.Prelude.{◌≡◌, ℕ, suc, ◌^◌, ◌<◌, false, T, [], is_some, IfSome, if◌then◌else◌, Some, None, MatchResult};
 ghost use Rattle.fault.specs.declared.Fault.TheVariants.{ImproperPart};
 ghost use Rattle.tree.specs.Parts.{proper};

@@ -22,8 +22,8 @@ fn under(pad: Pad, session: Key) -> Pad
     let mut plain = [0; 48];
     plain[0..32].copy_from_slice(&session);
     let mut covered = pad;
-    for (i, byte) in plain.iter().enumerate() {
-        covered[i] ^= byte;
+    for (i, byte) in covered.iter_mut().enumerate() {
+        *byte ^= plain[i];
     }
     covered
 }

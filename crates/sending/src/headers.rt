@@ -44,6 +44,7 @@ pub fn write_headers<C: Cipher>(
             return Err(Fault::OutOfRange);
         };
         let covered = header(cipher, start, *part, show)?;
+        // Over `chunks_exact_mut` and `zip` no proof was found of what they leave.
         let at = HEADER * i;
         out[at..at + HEADER].copy_from_slice(&header_bytes(*part, covered));
     }

@@ -2,7 +2,8 @@
 
 use crate::start::Start;
 
-/// The starts of some nodes of a tree, from the least node on.
+/// The starts of some nodes of a tree, from the least node on. Of which file they are, and for which receivers they were read, no field keeps; so
+/// contracts ask it, as `HasStarts`.
 #[derive(Drop)]
 pub struct Starts {
     pub(crate) height: u8,

@@ -1,7 +1,7 @@
 -- Lists written into lent memory, one behind the other. Assumes nothing.
-use Rattle.std.proofs.Common.{◌≡◌, ℕ, ◌+◌, ◌-◌, ◌<◌, ◌≤◌, List, [], ◌++◌, length, get_or, take, drop, set, sym, ap, ◌∙◌, ap₂, append_assoc, arith, length-append}
+use Rattle.std.proofs.Common.{◌≡◌, ℕ, ◌+◌, ◌-◌, ◌<◌, ◌≤◌, List, [], ◌++◌, length, get_or, take, drop, set, sym, ap, ◌∙◌, append_assoc, arith, length-append}
 use borrow.Rule.Slice.PartMut.{put_mid}
-use Rattle.std.proofs.lemmas.List.{append-nil, drop_all, drop_more, take_all, take_at, take_more, drop_at, take_rest, length-drop, length-take-le, drop-drop, set-append_right}
+use Rattle.std.proofs.lemmas.List.{append-nil, drop_all, drop_more, take_at, take_more, drop_at, take_rest, length-drop, length-take-le, drop-drop, set-append_right}
 use Rattle.fault.specs.Memory.{over}
 
 -- the second list is written into the free end that the first leaves
@@ -40,6 +40,3 @@ module _ {A : Type 0} (xs memory : List A) {out : List A} (i : ℕ) (so_far : ou
       let t = length-take-le i xs (omega arith) in
       let z : i - i ≡ 0 = omega arith in
       rw (so_far, set-append_right (take i xs) (drop i memory) i i v t (omega arith), z, drop_more memory i d k, take_more xs i d l, append_assoc, e)
-
-  pub over_all : i ≡ length xs → out ≡ over xs memory
-  over_all e = so_far ∙ ap₂ ◌++◌ (take_all i xs (omega arith)) (ap (λ (n : ℕ). drop n memory) e)

@@ -14,7 +14,7 @@ use crate::receivers::{ReceiverList, fault_in};
 use crate::subtree::Subtree;
 use fault::Refusal;
 
-/// How many of the rising receivers come before `middle`.
+/// How many of the rising receivers come before `middle`. That they rise is asked here and by what leads down to here; `cover` has judged it.
 fn count_before(receivers: &[u32], middle: u32) -> usize
     requires { T (rising receivers.now) }
     ensures within { result ≤ length receivers.now }

@@ -60,9 +60,8 @@ fn copy_words(from: Words, to: &mut [u32; MAX_REVOKED])
     requires { length (words from.bytes.now) ≤ max_revoked }
     ensures { to.new ≡ over (words from.entry.bytes.now) to.old }
 {
-    // As in judging them, receivers are gone through by count and place.
-    for i in 0..from.count() {
-        to[i] = from.at(i);
+    for (i, receiver) in to[..from.count()].iter_mut().enumerate() {
+        *receiver = from.at(i);
     }
 }
 
@@ -79,7 +78,9 @@ pub fn read_revocation(
     let Some(count) = count_in(bytes) else {
         return Err(Fault::Malformed);
     };
-    let words = Words { bytes: &bytes[HEAD..] };
+    let words = Words {
+        bytes: &bytes[HEAD..],
+    };
     if let Some(fault) = fault_in_named(height.levels, &words) {
         return Err(fault);
     }

@@ -45,7 +45,7 @@ pub fn write_words(numbers: &[u32], out: &mut [u8])
     requires { 4 * length numbers.now ≤ length out.old }
     ensures { out.new ≡ over (flat_map bytes4 numbers.now) out.old }
 {
-    // Over `chunks_exact_mut` the proof didn't close: nothing is known of what an iterator of `&mut` leaves.
+    // Over `chunks_exact_mut` and `zip` no proof was found of what they leave.
     for (i, number) in numbers.iter().enumerate() {
         write_word(*number, &mut out[4 * i..]);
     }
