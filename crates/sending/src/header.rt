@@ -22,6 +22,7 @@ fn under(pad: Pad, session: Key) -> Pad
     let mut plain = [0; 48];
     plain[0..32].copy_from_slice(&session);
     let mut covered = pad;
+    // Over `zip` no invariant was found that says what is left of the bytes.
     for (i, byte) in covered.iter_mut().enumerate() {
         *byte ^= plain[i];
     }

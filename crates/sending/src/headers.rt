@@ -5,6 +5,7 @@ ghost use Rattle.secrecy.specs.Terms.{Session};
 ghost use Rattle.secrecy.specs.Worlds.{bytes};
 ghost use Rattle.keys.specs.Drawn.{Draws, world};
 ghost use Rattle.starts.specs.Drawn.{DrawnIn};
+ghost use Rattle.starts.specs.Kept.{is_kept};
 ghost use Rattle.starts.specs.Reading.{HasStarts};
 ghost use Rattle.sending.specs.Headers.{firsts_kept, AllSendable, WroteHeaders};
 
@@ -16,16 +17,18 @@ use starts::table::Starts;
 use tree::parts::Part;
 use wire::sending::{HEADER, header_bytes};
 
+/// Whether the start is there from which the key of a part comes.
+fn has_start(starts: &Starts, part: Part) -> bool
+    ensures { (h : ℕ) (us s : List ℕ) → HasStarts h us s starts.now → result ≡ is_kept h us part.first }
+{
+    starts.of(part.first).is_some()
+}
+
 /// Whether the starts are there from which the keys of parts come.
 pub fn has_starts(starts: &Starts, parts: &[Part]) -> bool
     ensures { (h : ℕ) (us s : List ℕ) → HasStarts h us s starts.now → result ≡ firsts_kept h us parts.now }
 {
-    for part in parts {
-        if starts.of(part.first).is_none() {
-            return false;
-        }
-    }
-    true
+    parts.iter().all(|part| has_start(starts, *part))
 }
 
 /// Writes the headers of parts to the front of lent memory. It fails only where a start is missing, a part is improper or the number is too high.

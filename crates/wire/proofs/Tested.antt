@@ -14,7 +14,7 @@ use Rattle.wire.specs.Labels.{same_places}
 
 -- q is passed by a list if p is by each item
 module _ {A : Type 0} (p : A → Bool) (q : List A → Bool) (none : q [] ≡ true) (more : (x : A) (xs : List A) → q (x ∷ xs) ≡ (p x && q xs)) (d : A) where
-  by_items : (r : Bool) (xs : List A) → MatchBool r (AllWithin (λ x. p x ≡ true) xs 0 (length xs)) ((k : ℕ) × (k < length xs) × HoldsAt (λ x. p x ≡ false) xs k) → r ≡ q xs
+  pub by_items : (r : Bool) (xs : List A) → MatchBool r (AllWithin (λ x. p x ≡ true) xs 0 (length xs)) ((k : ℕ) × (k < length xs) × HoldsAt (λ x. p x ≡ false) xs k) → r ≡ q xs
   by_items true xs m = and_is q p none more xs d true (λ e i l. m i d (omega arith) l) (λ e. absurd (both_ways true e refl))
   by_items false xs (k, l, h) = and_is q p none more xs d false (λ e i l. absurd (both_ways false refl e)) (λ e. (k, l, h d))
 
