@@ -1,5 +1,5 @@
 //! A whole sending, from the starts that were read for its revoked receivers. Assumes nothing.
-ghost use Rattle.std.specs.Prelude.{◌≡◌, ℕ, ◌≤◌, true, false, List, map, length, take, IfOk, OnErr, MatchResult};
+ghost use Rattle.std.specs.Prelude.{◌≡◌, ℕ, ◌≤◌, true, false, List, map, length, take, IfOk, OnErr, Some, None, MatchResult};
 ghost use Rattle.fault.specs.declared.Fault.TheVariants.{OutOfRange};
 ghost use Rattle.fault.specs.declared.Refusal.TheVariants.{Faulty};
 ghost use Rattle.fault.specs.Lowest.{lowest};
@@ -19,21 +19,31 @@ ghost use Rattle.sending.specs.Sent.{covered, sent_file, Ordered, SentIn, FileIs
 
 use crate::headers::{has_starts, write_headers};
 use crate::show::{Order, Show};
-use fault::{Fault, Refusal, lower_of};
+use fault::{Fault, Refusal, lower_than};
 use keys::Key;
 use keys::cipher::Cipher;
 use starts::table::Starts;
-use tree::cover::{cover, has_room};
+use tree::cover::{cover_judged, has_room};
 use tree::numbers::fault_in_number;
 use tree::parts::Part;
-use tree::receivers::fault_in;
+use tree::receivers::Receivers;
 use wire::sending::{HEAD, HEADER, head_bytes, size_of_sending};
 
-/// The lowest fault of a sending's number and of its revoked receivers.
-fn fault_in_order(height: u8, number: u32, revoked: &[u32]) -> Option<Fault>
-    ensures { result ≡ lowest (send_faults height number revoked.now) }
+/// What is to be sent, or the lowest fault of its number and of its revoked receivers.
+fn judged<'a>(height: u8, revoked: &'a [u32], number: u32, session: Key) -> Result<Order<'a>, Fault>
+    ensures { MatchResult result (λ order. (None ≡ lowest (send_faults height number revoked.now)) × (order.revoked.height.levels ≡ height) × (order.revoked.list.now ≡ revoked.now) × (order.show.number ≡ number) × (order.show.session ≡ session)) (λ fault. Some fault ≡ lowest (send_faults height number revoked.now)) }
 {
-    lower_of(fault_in_number(number), fault_in(height, &revoked))
+    let in_number = fault_in_number(number);
+    match Receivers::judged(height, revoked) {
+        Err(fault) => Err(lower_than(fault, in_number)),
+        Ok(revoked) => match in_number {
+            Some(fault) => Err(fault),
+            None => Ok(Order {
+                revoked,
+                show: Show { number, session },
+            }),
+        },
+    }
 }
 
 /// For how many parts there is room, where so many can be noted and so many bytes be written.
@@ -44,12 +54,12 @@ fn room_for(noted: usize, bytes: usize) -> usize
 }
 
 /// The cover of all but the revoked, in the front of lent memory, and how many parts it has.
-fn cover_rest(order: Order, parts: &mut [Part]) -> Result<u32, Refusal>
-    ensures answer { result ≡ cover_answer order.entry.height order.entry.revoked.now (length parts.old) }
-    ensures memory { parts.new ≡ afterwards result (cover order.entry.height order.entry.revoked.now) parts.old }
+fn cover_rest(revoked: Receivers, parts: &mut [Part]) -> Result<u32, Refusal>
+    ensures answer { result ≡ cover_answer revoked.entry.height.levels revoked.entry.list.now (length parts.old) }
+    ensures memory { parts.new ≡ afterwards result (cover revoked.entry.height.levels revoked.entry.list.now) parts.old }
     ensures within { IfOk result (λ n. n ≤ length parts.new) }
 {
-    let count = cover(order.height, order.revoked, parts)?;
+    let count = cover_judged(revoked, parts)?;
     Ok(count as u32)
 }
 
@@ -61,18 +71,22 @@ fn write_order<C: Cipher>(
     parts: &mut [Part],
     out: &mut [u8],
 ) -> Result<u32, Refusal>
-    requires noted { most (length order.revoked.now) ≤ length parts.old }
-    requires room { sending_size (most (length order.revoked.now)) ≤ length out.old }
+    requires noted { most (length order.revoked.list.now) ≤ length parts.old }
+    requires room { sending_size (most (length order.revoked.list.now)) ≤ length out.old }
     ensures within { IfOk result (λ n. sending_size n ≤ length out.old) }
-    ensures noted { parts.new ≡ over (cover order.entry.height order.entry.revoked.now) parts.old }
-    ensures written { (us s : List ℕ) → HasStarts order.entry.height us s starts.now → MatchResult result (λ n. (firsts_kept order.entry.height us (cover order.entry.height order.entry.revoked.now) ≡ true) × (n ≡ length (cover order.entry.height order.entry.revoked.now)) × ((d : Draws) (m : Sending) → Ordered C.Cipher.gives s order.entry.height order.entry.show.number order.entry.revoked.now order.entry.show.session d m → SentIn (world C.Cipher.gives d) order.entry.height m out.old out.new)) (λ r. (firsts_kept order.entry.height us (cover order.entry.height order.entry.revoked.now) ≡ false) × (r ≡ Faulty OutOfRange) × (out.new ≡ out.old)) }
+    ensures noted { parts.new ≡ over (cover order.entry.revoked.height.levels order.entry.revoked.list.now) parts.old }
+    ensures written { (us s : List ℕ) → HasStarts order.entry.revoked.height.levels us s starts.now → MatchResult result (λ n. (firsts_kept order.entry.revoked.height.levels us (cover order.entry.revoked.height.levels order.entry.revoked.list.now) ≡ true) × (n ≡ length (cover order.entry.revoked.height.levels order.entry.revoked.list.now)) × ((d : Draws) (m : Sending) → Ordered C.Cipher.gives s order.entry.revoked.height.levels order.entry.show.number order.entry.revoked.list.now order.entry.show.session d m → SentIn (world C.Cipher.gives d) order.entry.revoked.height.levels m out.old out.new)) (λ r. (firsts_kept order.entry.revoked.height.levels us (cover order.entry.revoked.height.levels order.entry.revoked.list.now) ≡ false) × (r ≡ Faulty OutOfRange) × (out.new ≡ out.old)) }
 {
-    let count = cover_rest(order, parts)?;
+    let count = cover_rest(order.revoked, parts)?;
     let cover = &parts[0..count as usize];
     if !has_starts(starts, cover) {
         return Err(Fault::OutOfRange.into());
     }
-    out[0..HEAD].copy_from_slice(&head_bytes(order.height, order.show.number, count));
+    out[0..HEAD].copy_from_slice(&head_bytes(
+        order.revoked.height.levels,
+        order.show.number,
+        count,
+    ));
     write_headers(cipher, starts, cover, order.show, &mut out[HEAD..])?;
     Ok(count)
 }
@@ -100,18 +114,10 @@ pub fn write_sending<C: Cipher>(
     ensures secret { SendingsSecret }
     ensures over_bytes { ShowsBytes }
 {
-    let height = starts.height();
-    if let Some(fault) = fault_in_order(height, number, revoked) {
-        return Err(fault.into());
-    }
+    let order = judged(starts.height(), revoked, number, session)?;
     if !has_room(revoked.len(), room_for(parts.len(), out.len())) {
         return Err(Refusal::NoRoom);
     }
-    let order = Order {
-        height,
-        revoked,
-        show: Show { number, session },
-    };
     let count = write_order(cipher, starts, order, parts, out)?;
     Ok(size_of_sending(count))
 }

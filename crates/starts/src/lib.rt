@@ -2,7 +2,6 @@
 //! It is the one format that needs a heap to be read, so it stands apart from the others.
 #![tactic(auto)]
 
-mod asked;
 mod filling;
 pub mod head;
 mod judging;

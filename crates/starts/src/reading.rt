@@ -4,22 +4,23 @@ ghost use Rattle.fault.specs.Lowest.{lowest};
 ghost use Rattle.starts.specs.Format.{asked_faults};
 ghost use Rattle.starts.specs.Reading.{HasRead, HasStarts};
 
-use crate::asked::Asked;
 use crate::filling::fill_starts;
 use crate::judging::fault_in_file;
+use crate::nodes::unread_starts;
 use crate::piece::Piece;
 use crate::reader::StartsReader;
 use crate::table::Starts;
 use fault::{Fault, lower_of};
 use std::alloc::{AllocError, Global};
+use tree::receivers::Receivers;
 
 impl StartsReader {
     /// Begins to read, for receivers of a tree of this height. Faults of theirs are told at the end, with those of the file.
     pub fn begin(heap: Global, height: u8, receivers: &[u32]) -> Result<StartsReader, AllocError>
         ensures { IfOk result (HasRead height receivers.now []) }
     {
-        let (starts, asked) = match Asked::judged(height, receivers) {
-            Ok(asked) => (asked.starts(heap)?, None),
+        let (starts, asked) = match Receivers::judged(height, receivers) {
+            Ok(asked) => (unread_starts(asked, heap)?, None),
             Err(fault) => (Vec::new(heap), Some(fault)),
         };
         Ok(StartsReader {

@@ -127,6 +127,6 @@ module _ {h k i h' k' i' : ℕ} (eh : h' ≡ h) (ek : k' ≡ k) (ei : i' ≡ i) 
   pub same_count : {xs xs' : List ℕ} {count : ℕ} → xs' ≡ xs → count ≡ length (closed i' (work h' xs' k' i')) → count ≡ length (closed i (work h xs k i))
   same_count ex e = e ∙ ap length (same_closed ex)
 
-pub beneath : (a : Subtree) (xs : List ℕ) → T (rising_from (first_below a.height a.levels a.node) xs) →
-    T (all_below (first_below a.height a.levels a.node + 2 ^ a.levels) xs) → Beneath a.height a.levels a.node xs
+pub beneath : (a : Subtree) (xs : List ℕ) → T (rising_from (first_below a.height.levels a.levels a.node) xs) →
+    T (all_below (first_below a.height.levels a.levels a.node + 2 ^ a.levels) xs) → Beneath a.height.levels a.levels a.node xs
 beneath a xs r l = record { stands = a.stands; rise = r; low = l }

@@ -8,9 +8,8 @@ ghost use Rattle.tree.specs.Receivers.{Cut, all_below, rising_from, rising};
 ghost use Rattle.tree.specs.Cover.{close, work, cover};
 ghost use Rattle.tree.specs.Promise.{most, Covers};
 
-use crate::heights::Height;
 use crate::parts::Part;
-use crate::receivers::{ReceiverList, fault_in};
+use crate::receivers::Receivers;
 use crate::subtree::Subtree;
 use fault::Refusal;
 
@@ -28,7 +27,7 @@ fn count_left(at: Subtree, receivers: &[u32]) -> usize
     requires inner { 0 < at.levels }
     requires rising { T (rising receivers.now) }
     ensures within { result ≤ length receivers.now }
-    ensures cut { Cut receivers.now result (first_below at.height (at.levels - 1) (2 * at.node + 1)) }
+    ensures cut { Cut receivers.now result (first_below at.height.levels (at.levels - 1) (2 * at.node + 1)) }
 {
     count_before(receivers, at.side(2 * at.node + 1).first_receiver())
 }
@@ -52,11 +51,11 @@ fn close_side(side: u32, node: u32, free: &mut [Part]) -> usize
 /// Covers the receivers below `at` that are not revoked, for the `side` that is to be closed where a node is named. Its parts go to the front of
 /// the free memory; it answers how many they are.
 fn cover_branch(at: Subtree, side: u32, revoked: &[u32], free: &mut [Part]) -> usize
-    requires rising { T (rising_from (first_below at.height at.levels at.node) revoked.now) }
-    requires below { T (all_below (first_below at.height at.levels at.node + 2 ^ at.levels) revoked.now) }
+    requires rising { T (rising_from (first_below at.height.levels at.levels at.node) revoked.now) }
+    requires below { T (all_below (first_below at.height.levels at.levels at.node + 2 ^ at.levels) revoked.now) }
     requires room { 2 * length revoked.now ≤ length free.old + 1 }
-    ensures wrote { free.new ≡ over (closed side (work at.height revoked.now at.levels at.node)) free.old }
-    ensures count { result ≡ length (closed side (work at.height revoked.now at.levels at.node)) }
+    ensures wrote { free.new ≡ over (closed side (work at.height.levels revoked.now at.levels at.node)) free.old }
+    ensures count { result ≡ length (closed side (work at.height.levels revoked.now at.levels at.node)) }
 {
     if revoked.is_empty() {
         return 0;
@@ -87,6 +86,25 @@ pub fn has_room(revoked: usize, room: usize) -> bool
     room > 0 && revoked <= (room - 1) / 2 + 1
 }
 
+/// Writes the parts that cover all receivers but the revoked, whose list was judged, to the front of `out`, and answers how many they are.
+pub fn cover_judged(revoked: Receivers, out: &mut [Part]) -> Result<usize, Refusal>
+    ensures answer { result ≡ cover_answer revoked.entry.height.levels revoked.entry.list.now (length out.old) }
+    ensures memory { out.new ≡ afterwards result (cover revoked.entry.height.levels revoked.entry.list.now) out.old }
+    ensures within { IfOk result (λ n. n ≤ length out.new) }
+    ensures covers { IfOk result (λ n. Covers revoked.entry.height.levels revoked.entry.list.now (take n out.new)) }
+{
+    let height = revoked.height;
+    let list = revoked.list;
+    if !has_room(list.len(), out.len()) {
+        return Err(Refusal::NoRoom);
+    }
+    if list.is_empty() {
+        out[0] = Part::ALL;
+        return Ok(1);
+    }
+    Ok(cover_branch(Subtree::whole(height), 1, list, out))
+}
+
 /// Writes the parts that cover all receivers but the revoked to the front of `out`, which is lent since no heap is needed, and answers how many they
 /// are.
 pub fn cover(height: u8, revoked: &[u32], out: &mut [Part]) -> Result<usize, Refusal>
@@ -95,16 +113,5 @@ pub fn cover(height: u8, revoked: &[u32], out: &mut [Part]) -> Result<usize, Ref
     ensures within { IfOk result (λ n. n ≤ length out.new) }
     ensures covers { IfOk result (λ n. Covers height revoked.now (take n out.new)) }
 {
-    if let Some(fault) = fault_in(height, &revoked) {
-        return Err(fault.into());
-    }
-    let height = Height::try_from(height)?;
-    if !has_room(revoked.len(), out.len()) {
-        return Err(Refusal::NoRoom);
-    }
-    if revoked.is_empty() {
-        out[0] = Part::ALL;
-        return Ok(1);
-    }
-    Ok(cover_branch(Subtree::whole(height), 1, revoked, out))
+    cover_judged(Receivers::judged(height, revoked)?, out)
 }

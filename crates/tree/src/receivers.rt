@@ -1,5 +1,5 @@
 //! Lists of receivers, and what can be wrong with one. Assumes nothing.
-ghost use Rattle.std.specs.Prelude.{◌≡◌, ℕ, ◌<◌, List, length, nat_le, nat_lt, slice_index};
+ghost use Rattle.std.specs.Prelude.{◌≡◌, ℕ, ◌<◌, List, [], length, Some, MatchResult, nat_le, nat_lt, slice_index};
 ghost use Rattle.fault.specs.declared.Fault.TheVariants.{OutOfRange, NotRising};
 ghost use Rattle.fault.specs.Lowest.{when, lower, lowest};
 ghost use Rattle.tree.specs.Receivers.{list_faults};
@@ -58,4 +58,27 @@ pub fn fault_in<L: ReceiverList>(height: u8, receivers: &L) -> Option<Fault>
         least = u64::from(receiver) + 1;
     }
     fault
+}
+
+/// Receivers of a tree, in a list in which there is no fault.
+#[derive(Clone, Copy)]
+pub struct Receivers<'a> {
+    pub height: Height,
+    pub list: &'a [u32],
+    ghost faultless: { list_faults height.levels list.now ≡ [] },
+}
+
+impl<'a> Receivers<'a> {
+    /// The receivers of a list, or its lowest fault.
+    pub fn judged(height: u8, list: &'a [u32]) -> Result<Receivers<'a>, Fault>
+        ensures { MatchResult result (λ receivers. (receivers.height.levels ≡ height) × (receivers.list.now ≡ list.now)) (λ fault. lowest (list_faults height list.now) ≡ Some fault) }
+    {
+        if let Some(fault) = fault_in(height, &list) {
+            return Err(fault);
+        }
+        Ok(Receivers {
+            height: Height::try_from(height)?,
+            list,
+        })
+    }
 }

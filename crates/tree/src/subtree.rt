@@ -7,21 +7,21 @@ use crate::heights::Height;
 /// A node of a tree of some height, with the number of levels below it.
 #[derive(Clone, Copy)]
 pub struct Subtree {
-    pub height: u8,
+    pub height: Height,
     pub levels: u8,
     pub node: u32,
-    ghost stands: { Stands height levels node },
+    ghost stands: { Stands height.levels levels node },
 }
 
 impl Subtree {
     /// The whole of a tree.
     pub fn whole(height: Height) -> Subtree
-        ensures height { result.height ≡ height.levels }
+        ensures height { result.height.levels ≡ height.levels }
         ensures levels { result.levels ≡ height.levels }
         ensures node { result.node ≡ 1 }
     {
         Subtree {
-            height: height.levels,
+            height,
             levels: height.levels,
             node: 1,
         }
@@ -31,7 +31,7 @@ impl Subtree {
     pub fn side(self, node: u32) -> Subtree
         requires inner { 0 < self.levels }
         requires beneath { node / 2 ≡ self.node }
-        ensures height { result.height ≡ self.height }
+        ensures height { result.height.levels ≡ self.height.levels }
         ensures levels { result.levels ≡ self.levels - 1 }
         ensures node { result.node ≡ node }
     {
@@ -44,8 +44,8 @@ impl Subtree {
 
     /// The first receiver below the node.
     pub fn first_receiver(self) -> u32
-        ensures { result ≡ first_below self.height self.levels self.node }
+        ensures { result ≡ first_below self.height.levels self.levels self.node }
     {
-        (self.node << self.levels) - (1 << self.height)
+        (self.node << self.levels) - self.height.receivers()
     }
 }

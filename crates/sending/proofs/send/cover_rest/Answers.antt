@@ -9,7 +9,7 @@ use Rattle.sending.proofs.send.cover_rest.Goals as goal
 
 pub overflow_cast-result : goal.overflow_cast-result
 overflow_cast-result c =
-    let h = c.args.order.height in
-    let rs = c.args.order.revoked.now in
+    let h = c.args.revoked.height.levels in
+    let rs = c.args.revoked.list.now in
     let (none, room, count) = fitted_ok (lowest (list_faults h rs)) (most (length rs)) (length c.args.parts.now) (length (cover h rs)) c.in_ok-count.count c.in_ok-count.ensures.answer in
     omega (arith, count, few_parts h rs none)

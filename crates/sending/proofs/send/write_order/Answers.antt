@@ -1,6 +1,7 @@
 -- The parts are noted, the front of the file is written, and then the headers behind it.
 use Rattle.std.proofs.Common.{ℕ, List, ◌++◌, length, drop, sym, refl, ap, ◌∙◌, arith, length-append}
 use Rattle.std.proofs.lemmas.List.{take_rest, length-drop}
+use Rattle.fault.specs.Lowest.{lowest}
 use Rattle.tree.specs.Cover.{cover}
 use Rattle.tree.proofs.Judged.{sound}
 use Rattle.secrecy.specs.Air.{as_trial}
@@ -14,8 +15,8 @@ use Rattle.sending.proofs.send.write_order.Goals as goal
 
 pub write_headers-requires : goal.write_headers-requires
 write_headers-requires g c =
-    let k = c.args.order.height in
-    let rs = c.args.order.revoked.now in
+    let k = c.args.order.revoked.height.levels in
+    let rs = c.args.order.revoked.list.now in
     let before = c.args.parts.now in
     let mid = c.copy_from_slice.new.self ++ drop 10 c.args.out.now in
     let e = c.in_ok-count.ensures in
@@ -26,8 +27,8 @@ write_headers-requires g c =
 
 pub returns-then-not-has_starts : goal.returns-then-not-has_starts
 returns-then-not-has_starts g c =
-    let k = c.args.order.height in
-    let rs = c.args.order.revoked.now in
+    let k = c.args.order.revoked.height.levels in
+    let rs = c.args.order.revoked.list.now in
     let e = c.in_ok-count.ensures in
     let noted = noted_is k rs c.args.parts.now c.cover_rest.new.parts c.in_ok-count.count e.answer e.memory in
     record {
@@ -41,23 +42,23 @@ returns-in_err-write_headers-clause-noted g c = c.in_ok-count.ensures.memory
 
 pub returns-in_err-write_headers-clause-written : goal.returns-in_err-write_headers-clause-written
 returns-in_err-write_headers-clause-written g c us s has =
-    let k = c.args.order.height in
-    let rs = c.args.order.revoked.now in
+    let k = c.args.order.revoked.height.levels in
+    let rs = c.args.order.revoked.list.now in
     let e = c.in_ok-count.ensures in
     let noted = noted_is k rs c.args.parts.now c.cover_rest.new.parts c.in_ok-count.count e.answer e.memory in
-    let none = c.args.order.sound in
+    let none = ap lowest (sym c.args.order.revoked.faultless) in
     absurd (c.in_err-write_headers.ensures k us s has (noted_sendable k rs us _ noted (sound k rs none).1 (c.if-not-has_starts.ensures k us s has)))
 
 pub returns : goal.returns
 returns g c =
-    let k = c.args.order.height in
-    let rs = c.args.order.revoked.now in
+    let k = c.args.order.revoked.height.levels in
+    let rs = c.args.order.revoked.list.now in
     let before = c.args.out.now in
     let e = c.in_ok-count.ensures in
     let count = count_is k rs c.args.parts.now c.cover_rest.new.parts c.in_ok-count.count e.answer e.memory in
     let noted = noted_is k rs c.args.parts.now c.cover_rest.new.parts c.in_ok-count.count e.answer e.memory in
     let few = few_noted k rs c.args.parts.now c.cover_rest.new.parts c.in_ok-count.count e.answer e.memory in
-    let none = c.args.order.sound in
+    let none = ap lowest (sym c.args.order.revoked.faultless) in
     let front = c.copy_from_slice.ensures.after ∙ c.head_bytes.ensures in
     record {
       within = omega (arith, count, few);

@@ -17,12 +17,15 @@ use Rattle.sending.specs.Sent.{Ordered, SentIn}
 use Rattle.sending.proofs.Whole.{sent_back, file_is_air, sendings_secret}
 use Rattle.sending.proofs.send.write_sending.Goals as goal
 
-pub returns-in-Some : goal.returns-in-Some
-returns-in-Some g c =
-    let fault : (h : ℕ) (us s : List ℕ) → HasStarts h us s c.args.starts.now → lowest (send_faults h c.args.number c.args.revoked.now) ≡ Some c.in-Some.fault =
-    λ h us s has. ap (λ (x : ℕ). lowest (send_faults x c.args.number c.args.revoked.now)) (sym (c.height-height.ensures ∙ has.height)) ∙ sym c.in-Some.ensures in
+-- the fault of the number or of the list
+pub returns-in_err-order : goal.returns-in_err-order
+returns-in_err-order g c =
+    let p = err_from_is_err_and c.from_residual.result c.from_residual.ensures.1 in
+    let fault : (h : ℕ) (us s : List ℕ) → HasStarts h us s c.args.starts.now → lowest (send_faults h c.args.number c.args.revoked.now) ≡ Some c.in_err-order.field-0.0 =
+    λ h us s has. ap (λ (x : ℕ). lowest (send_faults x c.args.number c.args.revoked.now)) (sym (c.height.ensures ∙ has.height)) ∙ sym c.in_err-order.ensures in
+    rw (p.1, p.2)
     record {
-      answer = λ h us s has. rw (c.into.ensures, fault h us s has) refl;
+      answer = λ h us s has. rw (fault h us s has) refl;
       own_starts = own_starts;
       within = tt;
       parts = λ h us s has. rw (fault h us s has) refl;
@@ -38,7 +41,7 @@ returns-in-Some g c =
 pub returns-then-not-has_room : goal.returns-then-not-has_room
 returns-then-not-has_room g c =
     let none : (h : ℕ) (us s : List ℕ) → HasStarts h us s c.args.starts.now → lowest (send_faults h c.args.number c.args.revoked.now) ≡ None =
-    λ h us s has. ap (λ (x : ℕ). lowest (send_faults x c.args.number c.args.revoked.now)) (sym (c.height-height.ensures ∙ has.height)) ∙ sym c.in_default.ensures in
+    λ h us s has. ap (λ (x : ℕ). lowest (send_faults x c.args.number c.args.revoked.now)) (sym (c.height.ensures ∙ has.height)) ∙ sym c.in_ok-order.ensures.0 in
     let test = rw c.room_for.ensures at c.if-not-has_room.ensures in
     record {
       answer = λ h us s has. rw (none h us s has, ← test) refl;
@@ -56,25 +59,33 @@ returns-then-not-has_room g c =
 
 pub returns : goal.returns
 returns g c =
-    let k = c.height-height.result in
+    let k = c.height.result in
     let n = c.args.number in
     let rs = c.args.revoked.now in
-    let w = c.in_ok-count.ensures in
-    let same : (h : ℕ) (us s : List ℕ) → HasStarts h us s c.args.starts.now → h ≡ k = λ h us s has. sym (c.height-height.ensures ∙ has.height) in
+    let order = c.in_ok-order.ensures in
+    let w = rw (order.1, order.2, order.3, order.4) at c.in_ok-count.ensures in
+    let same : (h : ℕ) (us s : List ℕ) → HasStarts h us s c.args.starts.now → h ≡ k = λ h us s has. sym (c.height.ensures ∙ has.height) in
     let at-k : (h : ℕ) (us s : List ℕ) → HasStarts h us s c.args.starts.now → HasStarts k us s c.args.starts.now =
     λ h us s has. subst (λ (x : ℕ). HasStarts x us s c.args.starts.now) (same h us s has) has in
     let size : (h : ℕ) (us s : List ℕ) → HasStarts h us s c.args.starts.now → c.size_of_sending.result ≡ sending_size (length (cover h rs)) =
     λ h us s has. c.size_of_sending.ensures ∙ ap sending_size ((w.written us s (at-k h us s has)).1) ∙ ap (λ (x : ℕ). sending_size (length (cover x rs))) (sym (same h us s has)) in
     let none : (h : ℕ) (us s : List ℕ) → HasStarts h us s c.args.starts.now → lowest (send_faults h n rs) ≡ None =
-    λ h us s has. ap (λ (x : ℕ). lowest (send_faults x n rs)) (same h us s has) ∙ sym c.in_default.ensures in
+    λ h us s has. ap (λ (x : ℕ). lowest (send_faults x n rs)) (same h us s has) ∙ sym order.0 in
     let kept : (h : ℕ) (us s : List ℕ) → HasStarts h us s c.args.starts.now → firsts_kept h us (cover h rs) ≡ true =
     λ h us s has. ap (λ (x : ℕ). firsts_kept x us (cover x rs)) (same h us s has) ∙ (w.written us s (at-k h us s has)).0 in
     let test = rw c.room_for.ensures at c.if-not-has_room.ensures in
     let sent : (h : ℕ) (us s : List ℕ) (d : Draws) (m : Sending) → HasStarts h us s c.args.starts.now → Ordered g.C.Cipher.gives s h n rs c.args.session d m →
     SentIn (world g.C.Cipher.gives d) h m c.args.out.now c.write_order.new.out =
     λ h us s d m has o.
-    subst (λ (x : ℕ). SentIn (world g.C.Cipher.gives d) x m c.args.out.now c.write_order.new.out) (sym (same h us s has))
-    ((w.written us s (at-k h us s has)).2 d m (subst (λ (x : ℕ). Ordered g.C.Cipher.gives s x n rs c.args.session d m) (same h us s has) o)) in
+    let made = c.in_ok-order.order in
+    let at = same h us s has ∙ sym order.1 in
+    let ordered : Ordered g.C.Cipher.gives s made.revoked.height.levels made.show.number made.revoked.list.now made.show.session d m =
+    subst (λ (x : ℕ). Ordered g.C.Cipher.gives s x made.show.number made.revoked.list.now made.show.session d m) at
+    (subst (λ (x : ℕ). Ordered g.C.Cipher.gives s h x made.revoked.list.now made.show.session d m) (sym order.3)
+    (subst (λ (x : List ℕ). Ordered g.C.Cipher.gives s h n x made.show.session d m) (sym order.2)
+    (subst (λ (x : List ℕ). Ordered g.C.Cipher.gives s h n rs x d m) (sym order.4) o))) in
+    subst (λ (x : ℕ). SentIn (world g.C.Cipher.gives d) x m c.args.out.now c.write_order.new.out) (sym at)
+    ((c.in_ok-count.ensures.written us s (subst (λ (x : ℕ). HasStarts x us s c.args.starts.now) at has)).2 d m ordered) in
     record {
       answer = λ h us s has. rw (none h us s has, ← test, kept h us s has, size h us s has) refl;
       own_starts = own_starts;
@@ -96,16 +107,17 @@ returns g c =
 -- a start is missing
 pub returns-in_err-count : goal.returns-in_err-count
 returns-in_err-count g c =
-    let p = err_from_is_err_and c.from_residual.result c.from_residual.ensures.1 in
-    let k = c.height-height.result in
+    let p = err_from_is_err_and c.from_residual-in_err-count.result c.from_residual-in_err-count.ensures.1 in
+    let k = c.height.result in
     let n = c.args.number in
     let rs = c.args.revoked.now in
-    let w = c.in_err-count.ensures in
-    let same : (h : ℕ) (us s : List ℕ) → HasStarts h us s c.args.starts.now → h ≡ k = λ h us s has. sym (c.height-height.ensures ∙ has.height) in
+    let order = c.in_ok-order.ensures in
+    let w = rw (order.1, order.2) at c.in_err-count.ensures in
+    let same : (h : ℕ) (us s : List ℕ) → HasStarts h us s c.args.starts.now → h ≡ k = λ h us s has. sym (c.height.ensures ∙ has.height) in
     let at-k : (h : ℕ) (us s : List ℕ) → HasStarts h us s c.args.starts.now → HasStarts k us s c.args.starts.now =
     λ h us s has. subst (λ (x : ℕ). HasStarts x us s c.args.starts.now) (same h us s has) has in
     let none : (h : ℕ) (us s : List ℕ) → HasStarts h us s c.args.starts.now → lowest (send_faults h n rs) ≡ None =
-    λ h us s has. ap (λ (x : ℕ). lowest (send_faults x n rs)) (same h us s has) ∙ sym c.in_default.ensures in
+    λ h us s has. ap (λ (x : ℕ). lowest (send_faults x n rs)) (same h us s has) ∙ sym order.0 in
     let missing : (h : ℕ) (us s : List ℕ) → HasStarts h us s c.args.starts.now → firsts_kept h us (cover h rs) ≡ false =
     λ h us s has. ap (λ (x : ℕ). firsts_kept x us (cover x rs)) (same h us s has) ∙ (w.written us s (at-k h us s has)).0 in
     let test = rw c.room_for.ensures at c.if-not-has_room.ensures in

@@ -17,7 +17,7 @@ use Rattle.tree.proofs.cover.+cover_branch.Goals.{After-close_side-closing, Afte
 pub returns-then-is_empty : goal.returns-then-is_empty
 returns-then-is_empty t c =
     let e = nil_from_length c.args.revoked.now (eqb-true (length c.args.revoked.now) 0 (sym c.if-is_empty.ensures)) in
-    let f = none_clean c.args.at.height c.args.at.levels c.args.at.node in
+    let f = none_clean c.args.at.height.levels c.args.at.levels c.args.at.node in
     rw (e, f) record { wrote = refl; count = refl }
 
 pub returns-then-at-eq0 : goal.returns-then-at-eq0
@@ -61,7 +61,7 @@ returns-then-split-revoked t c =
     rw (w, ← v) record { wrote = c.cover_branch-then-split-revoked.ensures.wrote; count = c.cover_branch-then-split-revoked.ensures.count }
 
 fork : (t : ℕ) (c : goal.After-close_side-closing t) →
-    Fork c.args.at.height c.args.at.levels c.args.at.node c.args.revoked.now c.count_left-split.result c.args.side c.args.free.now
+    Fork c.args.at.height.levels c.args.at.levels c.args.at.node c.args.revoked.now c.count_left-split.result c.args.side c.args.free.now
     c.close_side-closing.result c.close_side-closing.new.free
 fork t c =
     record {
@@ -85,21 +85,21 @@ cover_branch-on_left-requires t c =
 
 -- the left side is written
 left_count : (t : ℕ) (c : goal.After-cover_branch-on_left t) →
-    c.cover_branch-on_left.result ≡ length (closed (2 * c.args.at.node) (work c.args.at.height (take c.count_left-split.result c.args.revoked.now) (c.args.at.levels - 1) (2 * c.args.at.node)))
+    c.cover_branch-on_left.result ≡ length (closed (2 * c.args.at.node) (work c.args.at.height.levels (take c.count_left-split.result c.args.revoked.now) (c.args.at.levels - 1) (2 * c.args.at.node)))
 left_count t c =
     let l = c.side-left.ensures in
     same_count l.height l.levels l.node (take_front c.args.revoked.now c.count_left-split.result) c.cover_branch-on_left.ensures.count
 
 left_end : (t : ℕ) (c : goal.After-cover_branch-on_left t) →
     c.cover_branch-on_left.new.free
-    ≡ over (closed (2 * c.args.at.node) (work c.args.at.height (take c.count_left-split.result c.args.revoked.now) (c.args.at.levels - 1) (2 * c.args.at.node)))
+    ≡ over (closed (2 * c.args.at.node) (work c.args.at.height.levels (take c.count_left-split.result c.args.revoked.now) (c.args.at.levels - 1) (2 * c.args.at.node)))
     (take (length c.close_side-closing.new.free - c.close_side-closing.result) (drop c.close_side-closing.result c.close_side-closing.new.free))
 left_end t c =
     let l = c.side-left.ensures in
     same_written l.height l.levels l.node _ (take_front c.args.revoked.now c.count_left-split.result) c.cover_branch-on_left.ensures.wrote
 
 used_within : (t : ℕ) (c : goal.After-cover_branch-on_left t) →
-    Fork c.args.at.height c.args.at.levels c.args.at.node c.args.revoked.now c.count_left-split.result c.args.side c.args.free.now
+    Fork c.args.at.height.levels c.args.at.levels c.args.at.node c.args.revoked.now c.count_left-split.result c.args.side c.args.free.now
     c.close_side-closing.result c.close_side-closing.new.free →
     c.close_side-closing.result + c.cover_branch-on_left.result
     ≤ length (put_mid c.close_side-closing.result (length c.close_side-closing.new.free - c.close_side-closing.result) c.close_side-closing.new.free c.cover_branch-on_left.new.free)

@@ -6,16 +6,16 @@ use Rattle.tree.specs.Receivers.{list_faults, rising_from}
 use Rattle.starts.specs.Kept.{KeptNodes}
 use Rattle.starts.specs.Window.{nodes_of, AsRead}
 use Rattle.starts.proofs.reader.StartsReader.begin.Goals as goal
-use Rattle.starts.proofs.reader.StartsReader.begin.Goals.{in-Ok+in_ok-starts-in-Ok, in-Err}
+use Rattle.starts.proofs.reader.StartsReader.begin.Goals.{in-Ok+in_ok-unread_starts-in-Ok, in-Err}
 
 pub returns : goal.returns
 unfolding rising_from
 returns c =
     elim c.match-judged.branch [
-      | in-Ok+in_ok-starts-in-Ok w ↦
+      | in-Ok+in_ok-unread_starts-in-Ok w ↦
           let none : list_faults c.args.height c.args.receivers.now ≡ [] = rw (w.in-Ok.ensures.0, w.in-Ok.ensures.1) at w.in-Ok.asked.faultless in
-          let begun : KeptNodes c.args.height c.args.receivers.now (nodes_of (vec_items w.in_ok-starts-in-Ok.field-0)) × All (AsRead []) (vec_items w.in_ok-starts-in-Ok.field-0) =
-          rw (w.in-Ok.ensures.0, w.in-Ok.ensures.1) at w.in_ok-starts-in-Ok.ensures in
+          let begun : KeptNodes c.args.height c.args.receivers.now (nodes_of (vec_items w.in_ok-unread_starts-in-Ok.field-0)) × All (AsRead []) (vec_items w.in_ok-unread_starts-in-Ok.field-0) =
+          rw (w.in-Ok.ensures.0, w.in-Ok.ensures.1) at w.in_ok-unread_starts-in-Ok.ensures in
           record {
             height = refl;
             asked = rw w.starts-is (sym (ap lowest none));

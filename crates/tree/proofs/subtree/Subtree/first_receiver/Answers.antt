@@ -4,10 +4,10 @@ use Rattle.tree.proofs.subtree.Subtree.first_receiver.Goals as goal
 
 pub overflow_sub-result : goal.overflow_sub-result
 overflow_sub-result c =
-    let fit = leaves_fit c.args.self.height c.args.self.levels c.args.self.node c.args.self.stands in
-    rw (fit.0, fit.1) (leaves_from c.args.self.height c.args.self.levels c.args.self.node c.args.self.stands)
+    let fit = leaves_fit c.args.self.height.levels c.args.self.levels c.args.self.node c.args.self.stands in
+    rw (c.receivers.ensures, fit) (leaves_from c.args.self.height.levels c.args.self.levels c.args.self.node c.args.self.stands)
 
 pub returns : goal.returns
 returns c =
-    let fit = leaves_fit c.args.self.height c.args.self.levels c.args.self.node c.args.self.stands in
-    rw (fit.0, fit.1)
+    let fit = leaves_fit c.args.self.height.levels c.args.self.levels c.args.self.node c.args.self.stands in
+    rw (c.receivers.ensures, fit)

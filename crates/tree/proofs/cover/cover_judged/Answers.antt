@@ -4,37 +4,31 @@ use borrow.Author.Tests.{eqb-false}
 use Rattle.tree.specs.declared.parts.Part.{Part}
 use Rattle.tree.specs.Cover.{work, cover}
 use Rattle.tree.specs.Written.{closed}
+use Rattle.fault.specs.Lowest.{lowest}
 use Rattle.fault.specs.Memory.{over}
-use Rattle.std.proofs.lemmas.Bool.{both_ways}
-use Rattle.tree.proofs.Judged.{sound_height}
 use Rattle.tree.proofs.Sides.{some_open}
 use Rattle.tree.proofs.Branches.{same_work, same_rise, same_low}
 use Rattle.tree.proofs.Whole.{room, some_room, beneath_top, top_clean, top_named, answered, within, covered}
-use Rattle.tree.proofs.cover.cover.Goals as goal
-
-pub returns-in_err-height : goal.returns-in_err-height
-returns-in_err-height c =
-    absurd (both_ways _ c.in_err-height.ensures.1 (sound_height c.args.height c.args.revoked.now c.in_default.ensures))
+use Rattle.tree.proofs.cover.cover_judged.Goals as goal
 
 pub cover_branch-requires : goal.cover_branch-requires
 cover_branch-requires c =
-    let none = c.in_default.ensures in
+    let none = ap lowest (sym c.args.revoked.faultless) in
     let enough = c.if-not-has_room.ensures in
     let w = c.whole.ensures in
-    let h = c.in_ok-height.ensures in
-    let b = beneath_top c.args.height c.args.revoked.now c.args.out.now none enough in
+    let b = beneath_top c.args.revoked.height.levels c.args.revoked.list.now c.args.out.now none enough in
     record {
-      rising = same_rise (w.height ∙ h) (w.levels ∙ h) w.node b;
-      below = same_low (w.height ∙ h) (w.levels ∙ h) w.node b;
-      room = room c.args.height c.args.revoked.now c.args.out.now none enough;
+      rising = same_rise w.height w.levels w.node b;
+      below = same_low w.height w.levels w.node b;
+      room = room c.args.revoked.height.levels c.args.revoked.list.now c.args.out.now none enough;
     }
 
 pub returns-then-is_empty : goal.returns-then-is_empty
 returns-then-is_empty c =
-    let h = c.args.height in
-    let rs = c.args.revoked.now in
+    let h = c.args.revoked.height.levels in
+    let rs = c.args.revoked.list.now in
     let memory = c.args.out.now in
-    let none = c.in_default.ensures in
+    let none = ap lowest (sym c.args.revoked.faultless) in
     let enough = c.if-not-has_room.ensures in
     let done = top_clean h rs memory (some_room h rs memory none enough) (eqb-true (length rs) 0 (sym c.if-is_empty.ensures)) in
     record {
@@ -46,15 +40,14 @@ returns-then-is_empty c =
 
 pub returns : goal.returns
 returns c =
-    let h = c.args.height in
-    let rs = c.args.revoked.now in
+    let h = c.args.revoked.height.levels in
+    let rs = c.args.revoked.list.now in
     let memory = c.args.out.now in
-    let none = c.in_default.ensures in
+    let none = ap lowest (sym c.args.revoked.faultless) in
     let enough = c.if-not-has_room.ensures in
     let w = c.whole.ensures in
-    let e = c.in_ok-height.ensures in
     let some = some_open rs (beneath_top h rs memory none enough) (omega (arith, eqb-false (length rs) 0 (sym c.if-is_empty.ensures))) in
-    let same = ap (closed 1) (same_work (w.height ∙ e) (w.levels ∙ e) w.node rs) ∙ top_named (work h rs h 1) some in
+    let same = ap (closed 1) (same_work w.height w.levels w.node rs) ∙ top_named (work h rs h 1) some in
     let count : c.cover_branch.result ≡ length (cover h rs) = c.cover_branch.ensures.count ∙ ap length same in
     let wrote : c.cover_branch.new.free ≡ over (cover h rs) memory = c.cover_branch.ensures.wrote ∙ ap (λ (ps : List Part). over ps memory) same in
     record {
