@@ -1,12 +1,12 @@
 -- How far one node is below another. Assumes nothing.
-use Rattle.std.proofs.Common.{◌≡◌, ℕ, zero, suc, ◌+◌, ◌*◌, ◌/◌, ◌^◌, ◌<◌, ◌≤◌, true, false, cond, ◌&&◌, eqb, ltb, Some, None, Option, sym, refl, ap, ◌∙◌, ⊎_elim, pow-suc, pow_pos, arith}
+use Rattle.std.proofs.Common.{◌≡◌, ℕ, zero, suc, ◌+◌, ◌*◌, ◌/◌, ◌^◌, ◌<◌, ◌≤◌, true, false, cond, ◌&&◌, eqb, ltb, ◌⊎◌, Some, None, Option, sym, refl, ap, ◌∙◌, inl, inr, ⊎_elim, pow-suc, pow_pos, arith}
 use Rattle.std.proofs.lemmas.Float.{T_from_true}
 use Rattle.std.proofs.Math.Pow.{pow_mono}
 use Rattle.std.proofs.lemmas.Bool.{eq-eqb, ne_eqb, lt-ltb, ltb-true, and_parts, and_from, or_right, both_ways, cases_Bool, cases_order, cond-true, cond-false, false_from_ne_true}
 use Rattle.tree.specs.declared.parts.Part.{Part}
 use Rattle.tree.specs.Nodes.{below, in_tree}
 use Rattle.tree.specs.Parts.{is_all, descends, proper}
-use Rattle.tree.proofs.Up.{up, up_le, up_far, Under, below_up, up_below, under_below}
+use Rattle.tree.proofs.Up.{up, up_le, up_lt, up_far, Under, below_up, up_below, under_below}
 use Rattle.secrecy.proofs.Labels.{proper_is}
 use Rattle.keys.specs.Down.{reaches, steps_down}
 
@@ -39,6 +39,15 @@ module _ (h i j : ℕ) (in_tree_lem : j < 2 ^ suc h) where
       let e : reaches h i j ≡ false =
       false_from_ne_true (reaches h i j) (λ t. let w = and_parts (ltb 0 i) (below h i j) t in never (ltb-true 0 i w.0) (below_up h i j w.1)) in
       rw e
+
+-- where going up has passed by a node without meeting it, it is not above
+pub passed_by : (i j d : ℕ) → up d j < i → ((m : ℕ) → m < d → i < up m j) → Under i j → ⊥
+passed_by i j d short before (e, p) = go (cases_order e d)
+  where
+    go : (e ≡ d) ⊎ ((e < d) ⊎ (d < e)) → ⊥
+    go (inl q) = omega (arith, ap (λ (n : ℕ). up n j) q)
+    go (inr (inl q)) = omega (arith, before e q)
+    go (inr (inr q)) = omega (arith, up_lt d e j q)
 
 -- no number lies between two neighbouring powers of two and between two others
 same_power : (n a b : ℕ) → 2 ^ a ≤ n → n < 2 * 2 ^ a → 2 ^ b ≤ n → n < 2 * 2 ^ b → a ≡ b

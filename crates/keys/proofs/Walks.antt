@@ -15,6 +15,9 @@ module _ {S : Type 0} (steps : S → Point → S → Type 0) (w : World) where
     pub leads : down rest term ≡ down all t
     pub asks : (last : S) → Asked steps here (points w 0 (passed rest term)) last → Asked steps first (points w 0 (passed all t)) last
 
+  pub along_none : (all : List ℕ) (t : Term) (first : S) (label : List ℕ) → label ≡ bytes w t → Along all all t first first label
+  along_none all t first label e = record { term = t; is = e; leads = refl; asks = λ last a. a }
+
   pub along_more : (all rest : List ℕ) (x : ℕ) (t : Term) (first here next : S) (label more : List ℕ) → Along all (x ∷ rest) t first here label → steps here (point label 0) next →
       ((u : Term) → label ≡ bytes w u → more ≡ bytes w (side x u)) → Along all rest t first next more
   along_more all rest x t first here next label more a step e =

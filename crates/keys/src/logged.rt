@@ -5,7 +5,6 @@ ghost use Rattle.keys.specs.Log.{log_of, logs};
 
 use crate::Key;
 use crate::cipher::{Block, ChaCha20, Cipher};
-use arrayvec::ArrayVec;
 
 /// How many questions the list has room for.
 const ROOM: usize = 64;
@@ -16,19 +15,26 @@ pub struct Question {
     pub counter: u32,
 }
 
-/// The questions that were asked, the first one first. What is asked when there is no room left is not noted.
-#[derive(Clone, Drop)]
+/// The first `len` of the questions were asked. What is asked when there is no room left is not noted. An array beside its length, since a list with
+/// a length of its own can't be copied.
+#[derive(Clone, Copy)]
 pub struct Logged {
-    pub questions: ArrayVec<Question, ROOM>,
+    pub questions: [Question; ROOM],
+    pub len: usize,
 }
 
 impl Logged {
     /// One that was asked nothing yet.
     pub fn new() -> Logged
-        ensures { log_of result ≡ [] }
+        ensures len { result.len ≡ 0 }
+        ensures log { log_of result ≡ [] }
     {
         Logged {
-            questions: ArrayVec::new(),
+            questions: [Question {
+                key: [0; 32],
+                counter: 0,
+            }; ROOM],
+            len: 0,
         }
     }
 }
@@ -39,7 +45,10 @@ impl Cipher for Logged {
     ghost steps = { logs };
 
     fn block(&mut self, key: Key, counter: u32) -> Block {
-        let _ = self.questions.try_push(Question { key, counter });
+        if self.len < ROOM {
+            self.questions[self.len] = Question { key, counter };
+            self.len += 1;
+        }
         ChaCha20.block(key, counter)
     }
 }

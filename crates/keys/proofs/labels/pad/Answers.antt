@@ -1,18 +1,10 @@
 -- The first 48 bytes of the block for the number are those of its pad and of its check.
-use Rattle.std.proofs.Common.{◌≡◌, ℕ, suc, ◌+◌, true, leb, List, ◌++◌, take, take-add, refl, ap, ◌∙◌, arith}
+use Rattle.std.proofs.Common.{◌≡◌, true, leb, take, refl, ap, ◌∙◌}
 use Rattle.std.proofs.lemmas.Bool.{le-leb}
-use Rattle.secrecy.specs.Terms.{Term, Pad, Check}
-use Rattle.secrecy.specs.Worlds.{World, bytes}
 use Rattle.keys.specs.Drawn.{world}
 use Rattle.keys.specs.Promise.{last_number}
+use Rattle.keys.proofs.Derived.{covering}
 use Rattle.keys.proofs.labels.pad.Goals as goal
-
-covering : (w : World) (t : Term) (n c : ℕ) (key pad : List ℕ) → c ≡ n + 2 → key ≡ bytes w t → pad ≡ take 48 (w.block key c) →
-    pad ≡ bytes w (Pad t n) ++ bytes w (Check t n)
-unfolding bytes
-covering w t n c key pad ec ek e =
-    let counter : c ≡ suc (suc n) = omega arith in
-    e ∙ rw (counter, ek) (take-add 32 16 (w.block (bytes w t) (suc (suc n))))
 
 pub returns : goal.returns
 returns g c =
