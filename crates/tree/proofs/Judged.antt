@@ -1,13 +1,12 @@
--- A list of receivers is judged from its front to its end. Assumes nothing.
-use Rattle.std.proofs.Common.{◌≡◌, ℕ, suc, ◌+◌, ◌-◌, ◌^◌, ◌<◌, ◌≤◌, Bool, true, false, not, ◌||◌, T, eqb, ltb, leb, ◌⊎◌, List, [], ◌∷◌, ◌++◌, length, get_or, drop, None, Some, Option, sym, refl, inl, inr, add-one, arith, ap, ◌∙◌, ap₂, pow_mono}
+-- A list of receivers is judged by two flags, from its front to its end. Assumes nothing.
+use Rattle.std.proofs.Common.{◌≡◌, ℕ, suc, ◌+◌, ◌-◌, ◌^◌, ◌<◌, ◌≤◌, Bool, true, false, not, ◌||◌, T, eqb, ltb, leb, ◌⊎◌, List, [], ◌∷◌, ◌++◌, length, get_or, drop, None, sym, refl, inl, inr, add-one, arith, pow_mono}
 use Rattle.std.proofs.lemmas.Float.{T_from_true}
 use Rattle.std.proofs.lemmas.List.{at_drop_more, at_drop_all}
-use Rattle.std.proofs.lemmas.Bool.{and_parts, leb-true, ltb-true, both_ways, or_cases, eqb-true}
+use Rattle.std.proofs.lemmas.Bool.{and_from, and_parts, lt-ltb, le-leb, leb-true, ltb-true, both_ways, or_cases, eqb-true}
 use Rattle.std.proofs.lemmas.Bool.Decides.{nat_tests}
-use Rattle.fault.specs.declared.Fault.{Fault}
 use Rattle.fault.specs.declared.Fault.TheVariants.{OutOfRange, NotRising}
 use Rattle.fault.specs.Lowest.{when, lower, lowest}
-use Rattle.fault.proofs.Lowest.{lower_assoc}
+use Rattle.fault.proofs.Lowest.{lowest_append}
 use Rattle.tree.specs.Nodes.{max_height}
 use Rattle.tree.specs.Receivers.{is_in, all_below, rising_from, rising, is_height, list_faults}
 use Rattle.tree.proofs.Tests.{T_both, T_true}
@@ -18,65 +17,33 @@ ltb_not a b = grind (arith, nat_tests)
 leb_not : (a b : ℕ) → leb a b ≡ not (ltb b a)
 leb_not a b = grind (arith, nat_tests)
 
--- what is wrong with receivers where none below `least` may come first, in a tree with n
-abbrev pub faults_from : ℕ → ℕ → List ℕ → List Fault
-faults_from n least xs = when (not (all_below n xs)) OutOfRange ++ when (not (rising_from least xs)) NotRising
+-- a flag is set already, or by the receiver at hand, or by one still to come
+module _ (xs : List ℕ) (i : ℕ) (flag : Bool) where
+  pub below_more : (n : ℕ) → i < length xs → ((flag || leb n (get_or xs i 0)) || not (all_below n (drop (i + 1) xs))) ≡ (flag || not (all_below n (drop i xs)))
+  unfolding all_below
+  below_more n l =
+      let e = at_drop_more (all_below n) xs i 0 l in
+      rw (e, ltb_not (get_or xs i 0) n) (grind arith)
 
-lower_none : (o : Option Fault) → lower o None ≡ o
-lower_none None = refl
-lower_none (Some f) = refl
+  pub rising_more : (least : ℕ) → i < length xs →
+      ((flag || ltb (get_or xs i 0) least) || not (rising_from (get_or xs i 0 + 1) (drop (i + 1) xs))) ≡ (flag || not (rising_from least (drop i xs)))
+  unfolding rising_from
+  rising_more least l =
+      let e = at_drop_more (rising_from least) xs i 0 l in
+      rw (e, leb_not least (get_or xs i 0), add-one (get_or xs i 0)) (grind arith)
 
--- a cause is there already, or it comes
-either : (a b c d : Bool) →
-    lower (lower (lowest (when a OutOfRange)) (lowest (when b NotRising))) (lowest (when c OutOfRange ++ when d NotRising))
-    ≡ lowest (when (a || c) OutOfRange ++ when (b || d) NotRising)
-either true true true true = refl
-either true true true false = refl
-either true true false true = refl
-either true true false false = refl
-either true false true true = refl
-either true false true false = refl
-either true false false true = refl
-either true false false false = refl
-either false true true true = refl
-either false true true false = refl
-either false true false true = refl
-either false true false false = refl
-either false false true true = refl
-either false false true false = refl
-either false false false true = refl
-either false false false false = refl
-
--- of the receivers from place i on, the one there has the faults that it has alone, and the others follow it
-module _ (xs : List ℕ) (i n least : ℕ) (within : i < length xs) where
-  one_on :
-      lower (lower (lowest (when (leb n (get_or xs i 0)) OutOfRange)) (lowest (when (ltb (get_or xs i 0) least) NotRising)))
-      (lowest (faults_from n (get_or xs i 0 + 1) (drop (i + 1) xs)))
-      ≡ lowest (faults_from n least (drop i xs))
-  unfolding all_below rising_from
-  one_on =
-      let x = get_or xs i 0 in
-      let b = at_drop_more (all_below n) xs i 0 within in
-      let r = at_drop_more (rising_from least) xs i 0 within in
-      let o : (leb n x || not (all_below n (drop (i + 1) xs))) ≡ not (all_below n (drop i xs)) = rw (b, ltb_not x n) (grind arith) in
-      let u : (ltb x least || not (rising_from (x + 1) (drop (i + 1) xs))) ≡ not (rising_from least (drop i xs)) = rw (r, leb_not least x, add-one x) (grind arith) in
-      either (leb n x) (ltb x least) (not (all_below n (drop (i + 1) xs))) (not (rising_from (x + 1) (drop (i + 1) xs)))
-      ∙ ap₂ (λ (p q : Bool). lowest (when p OutOfRange ++ when q NotRising)) o u
-
-  pub judged_on : (before : Option Fault) {all : Option Fault} → lower before (lowest (faults_from n least (drop i xs))) ≡ all →
-      lower (lower before (lower (lowest (when (leb n (get_or xs i 0)) OutOfRange)) (lowest (when (ltb (get_or xs i 0) least) NotRising))))
-      (lowest (faults_from n (get_or xs i 0 + 1) (drop (i + 1) xs)))
-      ≡ all
-  judged_on before e =
-      let own = lower (lowest (when (leb n (get_or xs i 0)) OutOfRange)) (lowest (when (ltb (get_or xs i 0) least) NotRising)) in
-      lower_assoc before own (lowest (faults_from n (get_or xs i 0 + 1) (drop (i + 1) xs))) ∙ ap (lower before) one_on ∙ e
-
--- behind the last there is no more
-pub judged_all : (before : Option Fault) {all : Option Fault} (xs : List ℕ) (i n least : ℕ) → length xs ≤ i → lower before (lowest (faults_from n least (drop i xs))) ≡ all → before ≡ all
+-- at the end of the list the flags say it all
+pub judged_all : (h : ℕ) (xs : List ℕ) (i least : ℕ) (outside unordered : Bool) → 0 < h → h ≤ max_height → length xs ≤ i →
+    (outside || not (all_below (2 ^ h) (drop i xs))) ≡ not (all_below (2 ^ h) xs) → (unordered || not (rising_from least (drop i xs))) ≡ not (rising xs) →
+    lower (lowest (when outside OutOfRange)) (lowest (when unordered NotRising)) ≡ lowest (list_faults h xs)
 unfolding all_below rising_from
-judged_all before xs i n least l e =
-    let none = at_drop_all (λ (ys : List ℕ). lowest (faults_from n least ys)) xs i l in
-    sym (lower_none before) ∙ ap (lower before) (sym none) ∙ e
+judged_all h xs i least outside unordered pos high l below rise =
+    let height = and_from (ltb 0 h) (leb h max_height) (lt-ltb 0 h pos) (le-leb h max_height high) in
+    let d = at_drop_all (all_below (2 ^ h)) xs i l in
+    let e = at_drop_all (rising_from least) xs i l in
+    let o : not (all_below (2 ^ h) xs) ≡ outside = grind arith in
+    let u : not (rising xs) ≡ unordered = grind arith in
+    rw (height, o, u) (sym (lowest_append (when outside OutOfRange) (when unordered NotRising)))
 
 faulty : (c : Bool) → None ≡ lowest (OutOfRange ∷ when c NotRising) → ⊥
 faulty true e = let z : ◌≡◌ {A = ℕ} 0 1 = cc in omega arith

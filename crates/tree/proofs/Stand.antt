@@ -1,5 +1,5 @@
 -- Where a node stands, and which receivers are below it. Assumes nothing.
-use Rattle.std.proofs.Common.{◌≡◌, ℕ, suc, ◌+◌, ◌-◌, ◌*◌, ◌%◌, ◌^◌, ◌<◌, ◌≤◌, ap, ◌∙◌, subst, mul-le-mul_right, mod-eq_of_lt, arith, pow_mono, pow-add}
+use Rattle.std.proofs.Common.{◌≡◌, ℕ, suc, ◌+◌, ◌-◌, ◌*◌, ◌%◌, ◌^◌, ◌<◌, ◌≤◌, ap, ◌∙◌, subst, mul-le-mul_right, mod-eq_of_lt, one-mul, arith, pow_mono, pow-add}
 use Rattle.tree.specs.Nodes.{max_height, Level, Stands}
 use Rattle.tree.proofs.Exact.{level_left, level_right}
 
@@ -26,7 +26,9 @@ module _ (h k i : ℕ) (stands : Stands h k i) where
       omega (arith, e, mul-le-mul_right (2 ^ k) l)
 
   -- leaves fit into 32 bits, so that the code's shifts are products
-  pub leaves_fit : (i * 2 ^ k) % 2 ^ 32 ≡ i * 2 ^ k
+  pub leaves_fit : ((1 * 2 ^ h) % 2 ^ 32 ≡ 2 ^ h) × ((i * 2 ^ k) % 2 ^ 32 ≡ i * 2 ^ k)
   leaves_fit =
       let top = pow_mono {i = suc h} {j = suc max_height} (omega arith) in
-      mod-eq_of_lt (omega (arith, top, leaves_to, mul-le-mul_right {m = i} {n = i + 1} (2 ^ k) (omega arith)))
+      let one : 1 * 2 ^ h < 2 ^ 32 = omega (arith, top, leaves_from, leaves_to, mul-le-mul_right {m = i} {n = i + 1} (2 ^ k) (omega arith)) in
+      let all : i * 2 ^ k < 2 ^ 32 = omega (arith, top, leaves_to, mul-le-mul_right {m = i} {n = i + 1} (2 ^ k) (omega arith)) in
+      (mod-eq_of_lt one ∙ one-mul (2 ^ h), mod-eq_of_lt all)

@@ -32,16 +32,6 @@ impl<'a> ReceiverList for &'a [u32] {
     }
 }
 
-/// What is wrong with a receiver where none below `least` may come, in a tree with receivers below `end`.
-fn fault_of_next(receiver: u32, least: u64, end: u32) -> Option<Fault>
-    ensures { result ≡ lower (lowest (when (nat_le end receiver) OutOfRange)) (lowest (when (nat_lt receiver least) NotRising)) }
-{
-    lower_of(
-        Fault::OutOfRange.when(receiver >= end),
-        Fault::NotRising.when(u64::from(receiver) < least),
-    )
-}
-
 /// The lowest fault of a list of receivers for a tree of this height.
 pub fn fault_in<L: ReceiverList>(height: u8, receivers: &L) -> Option<Fault>
     ensures { result ≡ lowest (list_faults height (L.list receivers.now)) }
@@ -49,15 +39,22 @@ pub fn fault_in<L: ReceiverList>(height: u8, receivers: &L) -> Option<Fault>
     let Ok(height) = Height::try_from(height) else {
         return Some(Fault::OutOfRange);
     };
-    let mut fault = None;
+    // Two flags, which a turn sets without a branch: one running fault would have each turn ask what was found before.
+    let end = height.receivers();
+    let mut outside = false;
+    let mut unordered = false;
     let mut least = 0;
     // A list is known by its count and places wherever it is kept, so it is gone through by them.
     for i in 0..receivers.count() {
         let receiver = receivers.at(i);
-        fault = lower_of(fault, fault_of_next(receiver, least, height.receivers()));
+        outside |= receiver >= end;
+        unordered |= u64::from(receiver) < least;
         least = u64::from(receiver) + 1;
     }
-    fault
+    lower_of(
+        Fault::OutOfRange.when(outside),
+        Fault::NotRising.when(unordered),
+    )
 }
 
 /// Receivers of a tree, in a list in which there is no fault.

@@ -46,6 +46,6 @@ impl Subtree {
     pub fn first_receiver(self) -> u32
         ensures { result ≡ first_below self.height.levels self.levels self.node }
     {
-        (self.node << self.levels) - self.height.receivers()
+        (self.node << self.levels) - (1 << self.height.levels)
     }
 }

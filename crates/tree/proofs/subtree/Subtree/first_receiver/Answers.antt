@@ -5,9 +5,9 @@ use Rattle.tree.proofs.subtree.Subtree.first_receiver.Goals as goal
 pub overflow_sub-result : goal.overflow_sub-result
 overflow_sub-result c =
     let fit = leaves_fit c.args.self.height.levels c.args.self.levels c.args.self.node c.args.self.stands in
-    rw (c.receivers.ensures, fit) (leaves_from c.args.self.height.levels c.args.self.levels c.args.self.node c.args.self.stands)
+    rw (fit.0, fit.1) (leaves_from c.args.self.height.levels c.args.self.levels c.args.self.node c.args.self.stands)
 
 pub returns : goal.returns
 returns c =
     let fit = leaves_fit c.args.self.height.levels c.args.self.levels c.args.self.node c.args.self.stands in
-    rw (c.receivers.ensures, fit)
+    rw (fit.0, fit.1)
