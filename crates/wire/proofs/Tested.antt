@@ -1,9 +1,9 @@
 -- Tests of all items of an iterator, and of two iterators item by item. Assumes nothing.
-use Rattle.std.proofs.Common.{◌≡◌, ℕ, ◌<◌, Bool, true, false, ◌&&◌, List, [], ◌∷◌, ◌++◌, length, Some, None, Option, MatchOption, IfSome, sym, refl, ap, ◌∙◌, ap₂, arith}
+use Rattle.std.proofs.Common.{◌≡◌, ℕ, ◌<◌, Bool, true, false, not, ◌&&◌, List, [], ◌∷◌, length, Some, None, Option, is_some, sym, refl, ◌∙◌, arith}
 use Rattle.std.specs.Bool.{◌==◌}
 use Rattle.std.specs.Bool.{MatchBool}
-use Rattle.std.specs.List.{AllWithin, AllZip, HoldsAt}
-use Rattle.std.specs.Iterator.{Yields, YieldsFirst, ChecksAll, ComparesItemsByEq}
+use Rattle.std.specs.List.{AllWithin, HoldsAt}
+use Rattle.std.specs.Iterator.{YieldsFirst, ChecksAll}
 use denote.Param.Members.{Mut, Called}
 use Rattle.std.proofs.lemmas.Bool.{both_ways}
 use Rattle.std.proofs.lemmas.List.Recursion.{and_is}
@@ -24,32 +24,26 @@ module _ {A : Type 0} (p : A → Bool) (q : List A → Bool) (none : q [] ≡ tr
   all_tested rest s u f r ran pass fail =
       by_items r (rest s) (cases_from_all u f r (λ x. p x ≡ true) (λ x. p x ≡ false) ran (YieldsList-from_first (λ x. x) rest (rest s) refl) pass fail)
 
--- what an iterator had left is what it gave, and what it has left then
-taken : {S A : Type 0} (rest : S → List A) (s t : S) (xs : List A) → Yields (YieldsFirst rest) s xs t → rest s ≡ xs ++ rest t
-taken rest s t [] e = ap rest e
-taken rest s t (x ∷ xs) (j, e, y) = e ∙ ap (λ (l : List _). x ∷ l) (taken rest j t xs y)
-
 abbrev Same : Part → Part → Bool
 Same a b = a.first == b.first && a.second == b.second
 
-same_so_far : (xs ys ps qs : List Part) → AllZip (λ a b. Same a b ≡ true) xs ys → same_places (xs ++ ps) (ys ++ qs) ≡ same_places ps qs
-unfolding same_places
-same_so_far [] [] ps qs a = refl
-same_so_far (x ∷ xs) (y ∷ ys) ps qs (a, b) = rw (a, same_so_far xs ys ps qs b)
-same_so_far [] (y ∷ ys) ps qs a = absurd a
-same_so_far (x ∷ xs) [] ps qs a = absurd a
-
-module _ {S T : Type 0} (rest : S → List Part) (left : T → List Part) where
-  end : (s u : S) (t v : T) (o p : Option Part) (r : Bool) → YieldsFirst rest s o u → YieldsFirst left t p v →
-      MatchOption o (MatchOption p (r ≡ true) (λ _. r ≡ false)) (λ x. (r ≡ false) × IfSome p (λ y. Same x y ≡ false)) → r ≡ same_places (rest s) (left t)
+-- what is left of places is held against what is left of others
+module _ {ps qs : List Part} where
+  pub others_ended : {p : Part} {us : List Part} → ps ≡ p ∷ us → qs ≡ [] → same_places ps qs ≡ false
   unfolding same_places
-  end s u t v None None r a b e = rw (a.0, b.0, e)
-  end s u t v None (Some y) r a b e = rw (a.0, b, e)
-  end s u t v (Some x) None r a b e = rw (a, b.0, e.0)
-  end s u t v (Some x) (Some y) r a b e = rw (a, b, e.1, e.0)
+  others_ended e f = rw (e, f) refl
 
-  -- r is what `eq` answered
-  pub same_tested : (s : S) (t : T) (r : Bool) → ComparesItemsByEq (YieldsFirst rest) (λ (x y : T). y ≡ x) (YieldsFirst left) s t Same r → r ≡ same_places (rest s) (left t)
-  same_tested s t r (it, xs, ys, o, p, u, v, same, (s', took, gave), (t', took', gave'), zip, last) =
-      end s' u t' v o p r gave gave' last ∙ sym (same_so_far xs ys (rest s') (left t') zip)
-      ∙ ap₂ same_places (sym (taken rest s s' xs took)) (sym (taken left it t' ys took') ∙ ap left same)
+  pub one_differs : {p q : Part} {us vs : List Part} → ps ≡ p ∷ us → qs ≡ q ∷ vs → Same p q ≡ false → same_places ps qs ≡ false
+  unfolding same_places
+  one_differs e f d = rw (e, f, d) refl
+
+  pub one_same : {p q : Part} {us vs : List Part} → ps ≡ p ∷ us → qs ≡ q ∷ vs → Same p q ≡ true → same_places ps qs ≡ same_places us vs
+  unfolding same_places
+  one_same e f d = rw (e, f, d) refl
+
+-- behind the last place, others are left just if one more is given
+pub ended : {T : Type 0} (left : T → List Part) {ps : List Part} (s u : T) (o : Option Part) (r : Bool) →
+    ps ≡ [] → YieldsFirst left s o u → is_some o ≡ not r → r ≡ same_places ps (left s)
+unfolding same_places
+ended left s u None r e y n = rw (e, y.0) (grind arith)
+ended left s u (Some x) r e y n = rw (e, y) (grind arith)

@@ -1,5 +1,5 @@
 //! A receiver's labels as a file. Assumes nothing.
-ghost use Rattle.std.specs.Prelude.{◌≡◌};
+ghost use Rattle.std.specs.Prelude.{◌≡◌, ◌&&◌, ◌==◌};
 ghost use Rattle.fault.specs.Lowest.{judged};
 ghost use Rattle.tree.specs.Walks.{left_of};
 ghost use Rattle.wire.specs.Entries.{entry_bytes};
@@ -63,11 +63,26 @@ fn all_in_tree(height: Height, entries: &[u8]) -> bool
         && height.has_node(place.second))
 }
 
+fn is_same(a: Part, b: Part) -> bool
+    ensures { result ≡ (a.first == b.first && a.second == b.second) }
+{
+    a.first == b.first && a.second == b.second
+}
+
 /// Whether labels are those of the way, in its order.
 fn is_along(way: Way, entries: &[u8]) -> bool
     ensures { result ≡ same_places (places entries.now) (left_of way) }
 {
-    Places::<ENTRY> { entries }.eq(way)
+    let mut left = way;
+    for place in (Places::<ENTRY> { entries }) {
+        let Some(step) = left.next() else {
+            return false;
+        };
+        if !is_same(place, step) {
+            return false;
+        }
+    }
+    left.next().is_none()
 }
 
 /// Reads a receiver's labels.
