@@ -1,7 +1,12 @@
 //! What is to be sent, by the files that the arguments name. The lowest fault of all of them and of the number is the answer.
+ghost use Rattle.std.specs.Prelude.{◌≡◌, nat_lt};
+ghost use Rattle.fault.specs.declared.Fault.TheVariants.{OutOfRange};
+ghost use Rattle.fault.specs.Lowest.{when, lower, lowest};
+ghost use Rattle.tree.specs.Numbers.{last_number};
+
 use cli::Stop;
 use cli::pieces::Pieces;
-use fault::Fault;
+use fault::{Fault, lower_of};
 use keys::Key;
 use starts::head::read_height;
 use starts::reader::StartsReader;
@@ -65,6 +70,19 @@ fn fault_of<T>(judged: &Judged<T>) -> Option<Fault> {
     judged.as_ref().err().copied()
 }
 
+/// The lowest fault of all that was judged, and of the number.
+fn lowest_fault(
+    list: Option<Fault>,
+    session: Option<Fault>,
+    starts: Option<Fault>,
+    number: u32,
+) -> Option<Fault>
+    ensures { result ≡ lower (lower list (lower session starts)) (lowest (when (nat_lt last_number number) OutOfRange)) }
+{
+    let of_files = lower_of(list, lower_of(session, starts));
+    lower_of(of_files, fault_in_number(number))
+}
+
 /// What is ordered.
 pub fn read_order(
     rt: &HostRuntime,
@@ -76,13 +94,13 @@ pub fn read_order(
     let list = read_list(rt, list)?;
     let session = read_session(rt, drawn)?;
     let starts = read_starts(rt, starts, &list)?;
-    let faults = [
+    let lowest = lowest_fault(
         fault_of(&list),
         fault_of(&session),
         fault_of(&starts),
-        fault_in_number(number),
-    ];
-    if let Some(fault) = faults.into_iter().flatten().min() {
+        number,
+    );
+    if let Some(fault) = lowest {
         return Err(fault.into());
     }
     Ok(Order {
